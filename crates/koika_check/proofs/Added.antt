@@ -12,8 +12,10 @@ use Rattle.koika_check.specs.Composites.{field_named, fields_of, members_of}
 use Rattle.koika_check.specs.inner.Locals.{AreLocals, shapes_of}
 use Rattle.koika_check.specs.inner.Settled.{IsSettled}
 use Rattle.koika_check.specs.inner.Shapes.{AreShapes, type_of_shape}
-use Rattle.koika_check.specs.inner.Things.{AreParts, AreThings, position_of, thing_named}
+use Rattle.koika_check.specs.inner.Things.{AreParts, AreThings, position_of, thing, thing_named}
+use Rattle.koika_check.specs.Kinds.{names_of}
 use Rattle.koika_check.specs.Types.{bits, width_of}
+use Rattle.koika_check.specs.declared.checked.Checked.{Checked}
 use Rattle.koika_check.specs.declared.checked.CheckedField.{CheckedField}
 use Rattle.koika_check.specs.declared.checked.CheckedFunction.{CheckedFunction}
 use Rattle.koika_check.specs.declared.checked.Host.{Host}
@@ -25,11 +27,11 @@ use Rattle.koika_check.specs.declared.checker.Checker.{Checker}
 use Rattle.koika_check.specs.declared.checker.Signature.{Signature}
 use Rattle.koika_check.specs.declared.shapes.Shape.{Shape}
 use Rattle.koika_check.specs.declared.things.Thing.{Thing}
-use Rattle.koika_check.specs.declared.things.Thing.TheVariants as thing
 use Rattle.koika_check.specs.declared.things.Things.{Things}
 use Rattle.koika_check.specs.declared.typed.ValueType.{ValueType}
+use Rattle.koika_check.specs.declared.things.Kind.TheVariants as kind
 use Rattle.koika_check.proofs.ArrayTypes.{get-last, get-push, le_split}
-use Rattle.koika_check.proofs.Declared.{declared-function, declared-host, declared-input, declared-register, declared-rule, declared-table, with_thing}
+use Rattle.koika_check.proofs.Declared.{Adds_name, declared-push, each-kind, name-push, with_thing}
 use Rattle.koika_check.proofs.Declaring.{marked}
 use Rattle.koika_check.proofs.Extensions.{Extends, signature-extends, type-extends, types-extend, width-more}
 
@@ -39,9 +41,9 @@ pub record Knows (a b : Checker) : Type 0 where
   pub names : (name : List ℕ) → IsDeclared b.design name (thing_named b.things name)
   pub parts : AreParts b.parts
   pub members : (number : ℕ) → number < length b.design.enums → (name : List ℕ) →
-      position_of b.parts (thing.Enum number) name ≡ number_of (map (λ (m : Member). m.name) (members_of b.design number)) name
+      position_of b.parts (thing kind.Enum number) name ≡ number_of (map (λ (m : Member). m.name) (members_of b.design number)) name
   pub named_fields : (number : ℕ) → number < length b.design.structs → (name : List ℕ) →
-      position_of b.parts (thing.Struct number) name ≡ field_named (fields_of b.design number) name
+      position_of b.parts (thing kind.Struct number) name ≡ field_named (fields_of b.design number) name
   pub widths : AreWidths b.design
   pub registers : AreTypes a b.registers (map (λ (r : Register). r.of) b.design.registers)
   pub inputs : AreTypes a b.inputs (map (λ (i : Input). i.of) b.design.inputs)
@@ -102,12 +104,13 @@ Declares old name t new = AreThings new × ((other : List ℕ) → thing_named n
 pub declares-at : (old new : Things) (name name' : List ℕ) (t t' : Thing) → name' ≡ name → t' ≡ t → AreThings new → ((other : List ℕ) → thing_named new other ≡ with_thing name' t' (thing_named old) other) → Declares old name t new
 declares-at old new name name' t t' e f are h = (are, λ other. h other ∙ ap₂ (λ n u. with_thing n u (thing_named old) other) e f)
 
-pub added-register : (a : Checker) → IsSettled a → (x : Register) (s : Shape) (name : List ℕ) (t : Things) → x.name ≡ name → thing_named a.things name ≡ None → Stands a s x.of → Declares a.things name (thing.Register (length a.design.registers)) t →
+pub added-register : (a : Checker) → IsSettled a → (x : Register) (s : Shape) (name : List ℕ) (t : Things) → x.name ≡ name → thing_named a.things name ≡ None → Stands a s x.of → Declares a.things name (thing kind.Register (length a.design.registers)) t →
     IsSettled (record a { design = record a.design { registers = a.design.registers ++ x ∷ [] }; things = t; registers = a.registers ++ s ∷ [] })
 added-register a h x s name t is new extra declares = record {
   checker = kept a _ (record { design = record { enums = ([], sym (append-nil a.design.enums)); structs = ([], sym (append-nil a.design.structs)) }; shapes = refl }) h.checker (record {
     things = declares.0;
-    names = declared-register a.design x name (thing_named a.things) (thing_named t) is new h.checker.names declares.1;
+    names = declared-push a.design (record a.design { registers = a.design.registers ++ x ∷ [] }) kind.Register name (thing_named a.things) (thing_named t)
+        (each-kind (Adds_name a.design kind.Register name (record a.design { registers = a.design.registers ++ x ∷ [] })) refl refl (name-push (λ (y : Register). y.name) a.design.registers x name is) refl refl refl refl refl) new h.checker.names declares.1;
     parts = h.checker.parts;
     members = h.checker.members;
     named_fields = h.checker.named_fields;
@@ -134,12 +137,13 @@ added-register a h x s name t is new extra declares = record {
   no_fields = h.no_fields;
 }
 
-pub added-input : (a : Checker) → IsSettled a → (x : Input) (s : Shape) (name : List ℕ) (t : Things) → x.name ≡ name → thing_named a.things name ≡ None → Stands a s x.of → Declares a.things name (thing.Input (length a.design.inputs)) t →
+pub added-input : (a : Checker) → IsSettled a → (x : Input) (s : Shape) (name : List ℕ) (t : Things) → x.name ≡ name → thing_named a.things name ≡ None → Stands a s x.of → Declares a.things name (thing kind.Input (length a.design.inputs)) t →
     IsSettled (record a { design = record a.design { inputs = a.design.inputs ++ x ∷ [] }; things = t; inputs = a.inputs ++ s ∷ [] })
 added-input a h x s name t is new extra declares = record {
   checker = kept a _ (record { design = record { enums = ([], sym (append-nil a.design.enums)); structs = ([], sym (append-nil a.design.structs)) }; shapes = refl }) h.checker (record {
     things = declares.0;
-    names = declared-input a.design x name (thing_named a.things) (thing_named t) is new h.checker.names declares.1;
+    names = declared-push a.design (record a.design { inputs = a.design.inputs ++ x ∷ [] }) kind.Input name (thing_named a.things) (thing_named t)
+        (each-kind (Adds_name a.design kind.Input name (record a.design { inputs = a.design.inputs ++ x ∷ [] })) refl refl refl (name-push (λ (y : Input). y.name) a.design.inputs x name is) refl refl refl refl) new h.checker.names declares.1;
     parts = h.checker.parts;
     members = h.checker.members;
     named_fields = h.checker.named_fields;
@@ -166,12 +170,13 @@ added-input a h x s name t is new extra declares = record {
   no_fields = h.no_fields;
 }
 
-pub added-table : (a : Checker) → IsSettled a → (x : Table) (name : List ℕ) (t : Things) → x.name ≡ name → thing_named a.things name ≡ None → IsWidth x.spec.in_width × IsWidth x.spec.out_width → Declares a.things name (thing.Table (length a.design.tables)) t →
+pub added-table : (a : Checker) → IsSettled a → (x : Table) (name : List ℕ) (t : Things) → x.name ≡ name → thing_named a.things name ≡ None → IsWidth x.spec.in_width × IsWidth x.spec.out_width → Declares a.things name (thing kind.Table (length a.design.tables)) t →
     IsSettled (record a { design = record a.design { tables = a.design.tables ++ x ∷ [] }; things = t })
 added-table a h x name t is new extra declares = record {
   checker = kept a _ (record { design = record { enums = ([], sym (append-nil a.design.enums)); structs = ([], sym (append-nil a.design.structs)) }; shapes = refl }) h.checker (record {
     things = declares.0;
-    names = declared-table a.design x name (thing_named a.things) (thing_named t) is new h.checker.names declares.1;
+    names = declared-push a.design (record a.design { tables = a.design.tables ++ x ∷ [] }) kind.Table name (thing_named a.things) (thing_named t)
+        (each-kind (Adds_name a.design kind.Table name (record a.design { tables = a.design.tables ++ x ∷ [] })) refl refl refl refl (name-push (λ (y : Table). y.name) a.design.tables x name is) refl refl refl) new h.checker.names declares.1;
     parts = h.checker.parts;
     members = h.checker.members;
     named_fields = h.checker.named_fields;
@@ -198,12 +203,13 @@ added-table a h x name t is new extra declares = record {
   no_fields = h.no_fields;
 }
 
-pub added-host : (a : Checker) → IsSettled a → (x : Host) (name : List ℕ) (t : Things) → x.name ≡ name → thing_named a.things name ≡ None → TakesWidth x.spec.kind x.spec.in_width → Declares a.things name (thing.Host (length a.design.hosts)) t →
+pub added-host : (a : Checker) → IsSettled a → (x : Host) (name : List ℕ) (t : Things) → x.name ≡ name → thing_named a.things name ≡ None → TakesWidth x.spec.kind x.spec.in_width → Declares a.things name (thing kind.Host (length a.design.hosts)) t →
     IsSettled (record a { design = record a.design { hosts = a.design.hosts ++ x ∷ [] }; things = t })
 added-host a h x name t is new extra declares = record {
   checker = kept a _ (record { design = record { enums = ([], sym (append-nil a.design.enums)); structs = ([], sym (append-nil a.design.structs)) }; shapes = refl }) h.checker (record {
     things = declares.0;
-    names = declared-host a.design x name (thing_named a.things) (thing_named t) is new h.checker.names declares.1;
+    names = declared-push a.design (record a.design { hosts = a.design.hosts ++ x ∷ [] }) kind.Host name (thing_named a.things) (thing_named t)
+        (each-kind (Adds_name a.design kind.Host name (record a.design { hosts = a.design.hosts ++ x ∷ [] })) refl refl refl refl refl (name-push (λ (y : Host). y.name) a.design.hosts x name is) refl refl) new h.checker.names declares.1;
     parts = h.checker.parts;
     members = h.checker.members;
     named_fields = h.checker.named_fields;
@@ -230,12 +236,13 @@ added-host a h x name t is new extra declares = record {
   no_fields = h.no_fields;
 }
 
-pub added-function : (a : Checker) → IsSettled a → (x : CheckedFunction) (s : Signature) (name : List ℕ) (t : Things) → x.name ≡ name → thing_named a.things name ≡ None → IsSignature a s x → Declares a.things name (thing.Function (length a.design.functions)) t →
+pub added-function : (a : Checker) → IsSettled a → (x : CheckedFunction) (s : Signature) (name : List ℕ) (t : Things) → x.name ≡ name → thing_named a.things name ≡ None → IsSignature a s x → Declares a.things name (thing kind.Function (length a.design.functions)) t →
     IsSettled (record a { design = record a.design { functions = a.design.functions ++ x ∷ [] }; things = t; functions = a.functions ++ s ∷ [] })
 added-function a h x s name t is new extra declares = record {
   checker = kept a _ (record { design = record { enums = ([], sym (append-nil a.design.enums)); structs = ([], sym (append-nil a.design.structs)) }; shapes = refl }) h.checker (record {
     things = declares.0;
-    names = declared-function a.design x name (thing_named a.things) (thing_named t) is new h.checker.names declares.1;
+    names = declared-push a.design (record a.design { functions = a.design.functions ++ x ∷ [] }) kind.Function name (thing_named a.things) (thing_named t)
+        (each-kind (Adds_name a.design kind.Function name (record a.design { functions = a.design.functions ++ x ∷ [] })) refl refl refl refl refl refl (name-push (λ (y : CheckedFunction). y.name) a.design.functions x name is) refl) new h.checker.names declares.1;
     parts = h.checker.parts;
     members = h.checker.members;
     named_fields = h.checker.named_fields;
@@ -268,12 +275,13 @@ added-function a h x s name t is new extra declares = record {
   no_fields = h.no_fields;
 }
 
-pub added-rule : (a : Checker) → IsSettled a → (x : CheckedRule) (name : List ℕ) (t : Things) → x.name ≡ name → thing_named a.things name ≡ None → Declares a.things name (thing.Rule (length a.design.rules)) t →
+pub added-rule : (a : Checker) → IsSettled a → (x : CheckedRule) (name : List ℕ) (t : Things) → x.name ≡ name → thing_named a.things name ≡ None → Declares a.things name (thing kind.Rule (length a.design.rules)) t →
     IsSettled (record a { design = record a.design { rules = a.design.rules ++ x ∷ [] }; things = t; asserted = a.asserted ++ false ∷ [] })
 added-rule a h x name t is new declares = record {
   checker = kept a _ (record { design = record { enums = ([], sym (append-nil a.design.enums)); structs = ([], sym (append-nil a.design.structs)) }; shapes = refl }) h.checker (record {
     things = declares.0;
-    names = declared-rule a.design x name (thing_named a.things) (thing_named t) is new h.checker.names declares.1;
+    names = declared-push a.design (record a.design { rules = a.design.rules ++ x ∷ [] }) kind.Rule name (thing_named a.things) (thing_named t)
+        (each-kind (Adds_name a.design kind.Rule name (record a.design { rules = a.design.rules ++ x ∷ [] })) refl refl refl refl refl refl refl (name-push (λ (y : CheckedRule). y.name) a.design.rules x name is)) new h.checker.names declares.1;
     parts = h.checker.parts;
     members = h.checker.members;
     named_fields = h.checker.named_fields;
@@ -307,20 +315,14 @@ added-rule a h x name t is new declares = record {
     unmarked (y ∷ xs) (suc i) = unmarked xs i
 
 -- a rule that is marked
+abbrev marked_in : Checked → ℕ → Checked
+marked_in d rule = record d { asserts = d.asserts ++ rule ∷ [] }
+
 pub added-assert : (a : Checker) → IsSettled a → (rule : ℕ) → rule < length a.design.rules → IsSettled (record a { design = record a.design { asserts = a.design.asserts ++ rule ∷ [] }; asserted = set a.asserted rule true })
 added-assert a h rule lt = record {
   checker = kept a _ (record { design = record { enums = ([], sym (append-nil a.design.enums)); structs = ([], sym (append-nil a.design.structs)) }; shapes = refl }) h.checker (record {
     things = h.checker.things;
-    names = λ name. record {
-      enums = (h.checker.names name).enums;
-      structs = (h.checker.names name).structs;
-      registers = (h.checker.names name).registers;
-      inputs = (h.checker.names name).inputs;
-      tables = (h.checker.names name).tables;
-      hosts = (h.checker.names name).hosts;
-      functions = (h.checker.names name).functions;
-      rules = (h.checker.names name).rules;
-    };
+    names = λ name j. h.checker.names name j ∙ ap (λ names. number_of names name) (each-kind (λ k. names_of k a.design ≡ names_of k (marked_in a.design rule)) refl refl refl refl refl refl refl refl j);
     parts = h.checker.parts;
     members = h.checker.members;
     named_fields = h.checker.named_fields;

@@ -12,7 +12,7 @@ use Rattle.koika_check.specs.Declarations.{names_of_fields, names_of_members}
 use Rattle.koika_check.specs.inner.Listed.{Keeps, Lists}
 use Rattle.koika_check.specs.inner.Settled.{IsSettled}
 use Rattle.koika_check.specs.inner.Shapes.{type_of_shape}
-use Rattle.koika_check.specs.inner.Things.{AreParts, position_of, thing_named}
+use Rattle.koika_check.specs.inner.Things.{AreParts, position_of, thing, thing_named}
 use Rattle.koika_check.specs.Types.{width_of}
 use Rattle.koika_check.specs.declared.checked.Checked.{Checked}
 use Rattle.koika_check.specs.declared.checked.CheckedField.{CheckedField}
@@ -20,14 +20,14 @@ use Rattle.koika_check.specs.declared.checked.Struct.{Struct}
 use Rattle.koika_check.specs.declared.checker.Checker.{Checker}
 use Rattle.koika_check.specs.declared.parts.Parts.{Parts}
 use Rattle.koika_check.specs.declared.shapes.Shape.{Shape}
-use Rattle.koika_check.specs.declared.things.Thing.TheVariants as thing
 use Rattle.koika_check.specs.declared.things.Things.{Things}
 use Rattle.koika_check.specs.declared.typed.ValueType.{ValueType}
+use Rattle.koika_check.specs.declared.things.Kind.TheVariants as kind
 use Rattle.koika_check.proofs.Added.{Declares, kept}
 use Rattle.koika_check.proofs.ArrayTypes.{get-last, get-push, le_split}
-use Rattle.koika_check.proofs.Declared.{declared-enum, declared-struct}
+use Rattle.koika_check.proofs.Declared.{Adds_name, declared-push, each-kind, name-push}
 use Rattle.koika_check.proofs.Extensions.{More, width-more}
-use Rattle.koika_check.proofs.Listing.{enum-struct, other-enum, other-struct, struct-enum}
+use Rattle.koika_check.proofs.Listing.{enum-struct, other-number, struct-enum}
 use Rattle.koika_check.proofs.Positions.{slice_get-last, slice_get-push}
 
 -- the width of a type that was declared before, and that of the new one
@@ -75,23 +75,24 @@ more_enum d x = record { enums = (x ∷ [], refl); structs = ([], sym (append-ni
 more_struct : (d : Checked) (x : Struct) → More d (with_struct d x)
 more_struct d x = record { enums = ([], sym (append-nil d.enums)); structs = (x ∷ [], refl) }
 
-pub added-enum : (a : Checker) → IsSettled a → (x : EnumDecl) (name : List ℕ) (t : Things) (p : Parts) → x.name ≡ name → thing_named a.things name ≡ None → Declares a.things name (thing.Enum (length a.design.enums)) t →
-    length a.design.enums < 2 ^ 32 → AreParts p → Keeps a.parts p (thing.Enum (length a.design.enums)) → Lists p (thing.Enum (length a.design.enums)) (names_of_members x.members) →
+pub added-enum : (a : Checker) → IsSettled a → (x : EnumDecl) (name : List ℕ) (t : Things) (p : Parts) → x.name ≡ name → thing_named a.things name ≡ None → Declares a.things name (thing kind.Enum (length a.design.enums)) t →
+    length a.design.enums < 2 ^ 32 → AreParts p → Keeps a.parts p (thing kind.Enum (length a.design.enums)) → Lists p (thing kind.Enum (length a.design.enums)) (names_of_members x.members) →
     IsWidth x.width →
     IsSettled (record a { design = record a.design { enums = a.design.enums ++ x ∷ [] }; things = t; parts = p })
 added-enum a h x name t p is new declares few are keeps lists width = record {
   checker = kept a _ (record { design = more_enum a.design x; shapes = refl }) h.checker (record {
     things = declares.0;
-    names = declared-enum a.design x name (thing_named a.things) (thing_named t) is new h.checker.names declares.1;
+    names = declared-push a.design (with_enum a.design x) kind.Enum name (thing_named a.things) (thing_named t)
+        (each-kind (Adds_name a.design kind.Enum name (with_enum a.design x)) (name-push (λ (y : EnumDecl). y.name) a.design.enums x name is) refl refl refl refl refl refl refl) new h.checker.names declares.1;
     parts = are;
     members = λ number lt name'.
         elim (le_split number (length a.design.enums) (omega (arith, lt, length-append a.design.enums (x ∷ [])))) [
-          | inl below ↦ keeps (thing.Enum number) name' (other-enum number (length a.design.enums) (omega (arith, below, few)) few (λ q. omega (arith, q, below))) ∙ h.checker.members number below name'
+          | inl below ↦ keeps (thing kind.Enum number) name' (other-number kind.Enum number (length a.design.enums) (omega (arith, below, few)) few (λ q. omega (arith, q, below))) ∙ h.checker.members number below name'
               ∙ ap (λ o. number_of (names_of_members (members_by o)) name') (sym (slice_get-push a.design.enums x number below))
-          | inr last ↦ ap (λ k. position_of p (thing.Enum k) name') last ∙ lists name'
+          | inr last ↦ ap (λ k. position_of p (thing kind.Enum k) name') last ∙ lists name'
               ∙ ap (λ o. number_of (names_of_members (members_by o)) name') (sym (slice_get-last a.design.enums x number last))
         ];
-    named_fields = λ number lt name'. keeps (thing.Struct number) name' (struct-enum number (length a.design.enums)) ∙ h.checker.named_fields number lt name';
+    named_fields = λ number lt name'. keeps (thing kind.Struct number) name' (struct-enum number (length a.design.enums)) ∙ h.checker.named_fields number lt name';
     widths = record {
       enums = λ number lt.
           elim (le_split number (length a.design.enums) (omega (arith, lt, length-append a.design.enums (x ∷ [])))) [
@@ -117,25 +118,26 @@ added-enum a h x name t p is new declares few are keeps lists width = record {
   unbound = h.unbound;
   no_members = λ number name' small le.
       let past : length a.design.enums < number = omega (arith, le, length-append a.design.enums (x ∷ [])) in
-      keeps (thing.Enum number) name' (other-enum number (length a.design.enums) small few (λ q. omega (arith, q, past))) ∙ h.no_members number name' small (omega (arith, past));
-  no_fields = λ number name' small le. keeps (thing.Struct number) name' (struct-enum number (length a.design.enums)) ∙ h.no_fields number name' small le;
+      keeps (thing kind.Enum number) name' (other-number kind.Enum number (length a.design.enums) small few (λ q. omega (arith, q, past))) ∙ h.no_members number name' small (omega (arith, past));
+  no_fields = λ number name' small le. keeps (thing kind.Struct number) name' (struct-enum number (length a.design.enums)) ∙ h.no_fields number name' small le;
 }
 
-pub added-struct : (a : Checker) → IsSettled a → (x : Struct) (shapes : List Shape) (name : List ℕ) (t : Things) (p : Parts) → x.name ≡ name → thing_named a.things name ≡ None → Declares a.things name (thing.Struct (length a.design.structs)) t →
-    length a.design.structs < 2 ^ 32 → AreParts p → Keeps a.parts p (thing.Struct (length a.design.structs)) → Lists p (thing.Struct (length a.design.structs)) (names_of_fields x.fields) →
+pub added-struct : (a : Checker) → IsSettled a → (x : Struct) (shapes : List Shape) (name : List ℕ) (t : Things) (p : Parts) → x.name ≡ name → thing_named a.things name ≡ None → Declares a.things name (thing kind.Struct (length a.design.structs)) t →
+    length a.design.structs < 2 ^ 32 → AreParts p → Keeps a.parts p (thing kind.Struct (length a.design.structs)) → Lists p (thing kind.Struct (length a.design.structs)) (names_of_fields x.fields) →
     AreTypes a shapes (map (λ (f : CheckedField). f.of) x.fields) → x.width ≡ min (sum_by (λ (f : CheckedField). width_of a.design f.of) x.fields) 129 →
     IsSettled (record a { design = record a.design { structs = a.design.structs ++ x ∷ [] }; things = t; parts = p; fields = a.fields ++ shapes ∷ [] })
 added-struct a h x shapes name t p is new declares few are keeps lists types width = record {
   checker = kept a _ (record { design = more_struct a.design x; shapes = refl }) h.checker (record {
     things = declares.0;
-    names = declared-struct a.design x name (thing_named a.things) (thing_named t) is new h.checker.names declares.1;
+    names = declared-push a.design (with_struct a.design x) kind.Struct name (thing_named a.things) (thing_named t)
+        (each-kind (Adds_name a.design kind.Struct name (with_struct a.design x)) refl (name-push (λ (y : Struct). y.name) a.design.structs x name is) refl refl refl refl refl refl) new h.checker.names declares.1;
     parts = are;
-    members = λ number lt name'. keeps (thing.Enum number) name' (enum-struct number (length a.design.structs)) ∙ h.checker.members number lt name';
+    members = λ number lt name'. keeps (thing kind.Enum number) name' (enum-struct number (length a.design.structs)) ∙ h.checker.members number lt name';
     named_fields = λ number lt name'.
         elim (le_split number (length a.design.structs) (omega (arith, lt, length-append a.design.structs (x ∷ [])))) [
-          | inl below ↦ keeps (thing.Struct number) name' (other-struct number (length a.design.structs) (omega (arith, below, few)) few (λ q. omega (arith, q, below))) ∙ h.checker.named_fields number below name'
+          | inl below ↦ keeps (thing kind.Struct number) name' (other-number kind.Struct number (length a.design.structs) (omega (arith, below, few)) few (λ q. omega (arith, q, below))) ∙ h.checker.named_fields number below name'
               ∙ ap (λ o. number_of (names_of_fields (fields_by o)) name') (sym (slice_get-push a.design.structs x number below))
-          | inr last ↦ ap (λ k. position_of p (thing.Struct k) name') last ∙ lists name'
+          | inr last ↦ ap (λ k. position_of p (thing kind.Struct k) name') last ∙ lists name'
               ∙ ap (λ o. number_of (names_of_fields (fields_by o)) name') (sym (slice_get-last a.design.structs x number last))
         ];
     widths = record {
@@ -170,8 +172,8 @@ added-struct a h x shapes name t p is new declares few are keeps lists types wid
     marks = h.checker.marks;
   });
   unbound = h.unbound;
-  no_members = λ number name' small le. keeps (thing.Enum number) name' (enum-struct number (length a.design.structs)) ∙ h.no_members number name' small le;
+  no_members = λ number name' small le. keeps (thing kind.Enum number) name' (enum-struct number (length a.design.structs)) ∙ h.no_members number name' small le;
   no_fields = λ number name' small le.
       let past : length a.design.structs < number = omega (arith, le, length-append a.design.structs (x ∷ [])) in
-      keeps (thing.Struct number) name' (other-struct number (length a.design.structs) small few (λ q. omega (arith, q, past))) ∙ h.no_fields number name' small (omega (arith, past));
+      keeps (thing kind.Struct number) name' (other-number kind.Struct number (length a.design.structs) small few (λ q. omega (arith, q, past))) ∙ h.no_fields number name' small (omega (arith, past));
 }

@@ -11,7 +11,7 @@ use Rattle.kw_base.specs.declared.fault_number.TheConstants.{UNKNOWN_NAME}
 use Rattle.koika_syntax.specs.declared.tree.Name.{Name}
 use Rattle.koika_check.specs.Constructs.{arguments_agree}
 use Rattle.koika_check.specs.Outcomes.{Fails, found, wrong}
-use Rattle.koika_check.specs.Scopes.{Called, at, called, called_function, called_host, called_table, function_named, host_named, or_else, table_named}
+use Rattle.koika_check.specs.Scopes.{Called, at, called, called_function, called_host, called_table, or_else}
 use Rattle.koika_check.specs.declared.checked.Checked.{Checked}
 use Rattle.koika_check.specs.inner.Shapes.{type_of_shape}
 use Rattle.koika_check.specs.Types.{TypedPart, bits}
@@ -20,6 +20,8 @@ use Rattle.koika_check.specs.declared.checker.Checker.{Checker}
 use Rattle.koika_check.specs.declared.checker.Signature.{Signature}
 use Rattle.koika_check.specs.declared.shapes.Shape.TheVariants as shape
 use Rattle.koika_check.specs.declared.typed.ValueType.{ValueType}
+use Rattle.koika_check.specs.Kinds.{number_named}
+use Rattle.koika_check.specs.declared.things.Kind.TheVariants as kind
 use Rattle.koika_check.proofs.PartTypes.{bits-type}
 
 -- the item at an index
@@ -100,16 +102,16 @@ agree-past f g xs ys i h =
 -- ---- a name that calls nothing
 
 abbrev otherwise : Checked → Name → Option Called
-otherwise d n = or_else (called_table (table_named d n.text) (at d.tables (table_named d n.text))) (called_host (host_named d n.text) (at d.hosts (host_named d n.text)))
+otherwise d n = or_else (called_table (number_named kind.Table d n.text) (at d.tables (number_named kind.Table d n.text))) (called_host (number_named kind.Host d n.text) (at d.hosts (number_named kind.Host d n.text)))
 
-no_function : (d : Checked) (n : Name) → function_named d n.text ≡ None → called d n ≡ found (otherwise d n) (wrong UNKNOWN_NAME n.place)
+no_function : (d : Checked) (n : Name) → number_named kind.Function d n.text ≡ None → called d n ≡ found (otherwise d n) (wrong UNKNOWN_NAME n.place)
 no_function d n f = ap (λ o. found (or_else (called_function o (at d.functions o)) (otherwise d n)) (wrong UNKNOWN_NAME n.place)) f
 
 abbrev hosts_of : Checked → Name → Option Called
-hosts_of d n = called_host (host_named d n.text) (at d.hosts (host_named d n.text))
+hosts_of d n = called_host (number_named kind.Host d n.text) (at d.hosts (number_named kind.Host d n.text))
 
-no_table : (d : Checked) (n : Name) → function_named d n.text ≡ None → table_named d n.text ≡ None → called d n ≡ found (hosts_of d n) (wrong UNKNOWN_NAME n.place)
+no_table : (d : Checked) (n : Name) → number_named kind.Function d n.text ≡ None → number_named kind.Table d n.text ≡ None → called d n ≡ found (hosts_of d n) (wrong UNKNOWN_NAME n.place)
 no_table d n f t = no_function d n f ∙ ap (λ o. found (or_else (called_table o (at d.tables o)) (hosts_of d n)) (wrong UNKNOWN_NAME n.place)) t
 
-pub called-unknown : (d : Checked) (n : Name) → function_named d n.text ≡ None → table_named d n.text ≡ None → host_named d n.text ≡ None → called d n ≡ Fails (wrong UNKNOWN_NAME n.place)
+pub called-unknown : (d : Checked) (n : Name) → number_named kind.Function d n.text ≡ None → number_named kind.Table d n.text ≡ None → number_named kind.Host d n.text ≡ None → called d n ≡ Fails (wrong UNKNOWN_NAME n.place)
 called-unknown d n f t h = no_table d n f t ∙ ap (λ o. found (called_host o (at d.hosts o)) (wrong UNKNOWN_NAME n.place)) h

@@ -14,7 +14,7 @@ use Rattle.koika_check.specs.inner.Outcomes.{Ends, Stop, Tells}
 use Rattle.koika_check.specs.Scopes.{Scope}
 use Rattle.koika_check.specs.inner.Shapes.{Denotes, part_of, type_if}
 use Rattle.koika_check.specs.inner.TypedParts.{Chained, In, IsChained}
-use Rattle.koika_check.specs.Types.{TypedPart as TypedPart, part}
+use Rattle.koika_check.specs.Types.{TypedPart as TypedPart, part, width_if}
 use Rattle.koika_check.specs.declared.checker.Checker.{Checker}
 use Rattle.koika_check.specs.declared.checker.Typing.{Typing}
 use Rattle.koika_check.specs.declared.shapes.Shape.{Shape}
@@ -106,19 +106,19 @@ chain-ends-joined old mid new start rest i x y k e lt is h now tells =
     (ends-same (operated o h.value.left now.value.part) (operated o (part_of (arrays_of new) y.left) (part_of (arrays_of new) k.part)) e (ap₂ (operated o) left now.means.part) (ends-tells (Denotes (arrays_of new)) _ e tells))))
 
 -- the whole chain
-pub chain-is : (s : Scope) (rest : List Operand) (first : constructs.Typing) → chain_in s (map operand_in rest) first ≡ (one_by_one (joining s) rest (started first) >>= λ all. Gives (chained all))
-chain-is s rest first = ap (λ o. o >>= λ all. Gives (chained all)) (chain-parts s rest (started first))
+pub chain-is : (s : Scope) (rest : List Operand) (first : constructs.Typing) → chain_in s (map operand_in rest) first ≡ (one_by_one (joining s) rest (started first) >>= λ all. Gives (chained (width_if s.design first.part.of) all))
+chain-is s rest first = ap (λ o. o >>= λ all. Gives (chained (width_if s.design first.part.of) all)) (chain-parts s rest (started first))
 
-pub chain-gives : (old new : Checker) (rest : List Operand) (first : constructs.Typing) (y : Chained) (z : Typing) → Yields (In IsChained (scope_of old)) old (one_by_one (joining (scope_of old)) rest (started first)) new y →
-    z ≡ record { part = record { of = y.left.of; place = y.left.place }; typed = made.Apply (operation.Chain y.operators) y.operands } → Yields (IsTyping (scope_of old)) old (chain_in (scope_of old) (map operand_in rest) first) new z
-chain-gives old new rest first y z h is = record {
+pub chain-gives : (old new : Checker) (rest : List Operand) (first : constructs.Typing) (width : ℕ) (y : Chained) (z : Typing) → Yields (In IsChained (scope_of old)) old (one_by_one (joining (scope_of old)) rest (started first)) new y → width ≡ width_if old.design first.part.of →
+    z ≡ record { part = record { of = y.left.of; place = y.left.place }; typed = made.Apply (operation.Chain y.operators width) y.operands } → Yields (IsTyping (scope_of old)) old (chain_in (scope_of old) (map operand_in rest) first) new z
+chain-gives old new rest first width y z h wide is = record {
   kept = h.kept;
   grows = h.grows;
-  value = chained h.value;
-  gives = chain-is (scope_of old) rest first ∙ ap (λ o. o >>= λ all. Gives (chained all)) h.gives;
-  means = subst (λ w. IsTyping (scope_of old) new w (chained h.value)) (sym is)
-      (record { scope_is = h.means.scope_is; part = h.means.means.left; type = h.means.means.type; typed = ap₂ (λ os ts. made.Apply (operation.Chain os) ts) h.means.means.operators h.means.means.operands });
+  value = chained (width_if old.design first.part.of) h.value;
+  gives = chain-is (scope_of old) rest first ∙ ap (λ o. o >>= λ all. Gives (chained (width_if old.design first.part.of) all)) h.gives;
+  means = subst (λ w. IsTyping (scope_of old) new w (chained (width_if old.design first.part.of) h.value)) (sym is)
+      (record { scope_is = h.means.scope_is; part = h.means.means.left; type = h.means.means.type; typed = (λ i. made.Apply (operation.Chain (h.means.means.operators i) (sym wide i)) (h.means.means.operands i)) });
 }
 
 pub chain-stops : (s : Scope) (rest : List Operand) (first : constructs.Typing) (e : Stop) → Ends (one_by_one (joining s) rest (started first)) e → Ends (chain_in s (map operand_in rest) first) e
-chain-stops s rest first e h = ends-same _ _ e (chain-is s rest first) (ends-bind (one_by_one (joining s) rest (started first)) (λ all. Gives (chained all)) e h)
+chain-stops s rest first e h = ends-same _ _ e (chain-is s rest first) (ends-bind (one_by_one (joining s) rest (started first)) (λ all. Gives (chained (width_if s.design first.part.of) all)) e h)

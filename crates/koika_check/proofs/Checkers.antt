@@ -1,42 +1,39 @@
 -- A checker with one more array type, and what its names say of the design.
 use Rattle.std.proofs.Common.{◌≡◌, inl, inr, ℕ, ◌*◌, ◌<◌, Bool, true, false, nat_eq, List, [], ◌∷◌, ◌++◌, length, map, get_or, Option, Some, None, Result, Ok, Err, refl, ap, ap₂, sym, ◌∙◌, subst, arith, append-nil, length-append}
 use Rattle.std.specs.List.{All, list_any}
-use Rattle.std.specs.Result.{IfOk}
-use Rattle.kw_base.specs.Names.{number_of}
-use Rattle.std.proofs.lemmas.List.{length-map}
 use Rattle.kw_bits.specs.Host.{TakesWidth}
 use Rattle.kw_base.specs.declared.fault_number.TheConstants.{UNKNOWN_NAME, WRONG_WIDTH}
 use Rattle.koika_syntax.specs.declared.tree.Name.{Name}
 use Rattle.koika_syntax.specs.declared.tree.TypeExpression.{TypeExpression}
 use Rattle.kw_bits.specs.declared.host.HostSpec.{HostSpec}
-use Rattle.koika_types.specs.declared.declarations.EnumDecl.{EnumDecl}
-use Rattle.koika_check.specs.inner.Checking.{AreTypes, AreWidths, Grows, IsChecker, IsDeclared, IsNamed, IsWidth, arrays_of, enum_by, shape_of, struct_by, type_by_thing}
+use Rattle.koika_check.specs.inner.Checking.{AreTypes, AreWidths, Grows, IsChecker, IsDeclared, IsNamed, IsWidth, arrays_of, count_of, shape_of, type_by_kind, type_by_thing}
 use Rattle.koika_check.specs.inner.Locals.{AreLocals}
-use Rattle.koika_check.specs.Outcomes.{Fails, Gives, found, wrong, ◌>>=◌}
+use Rattle.koika_check.specs.Outcomes.{Fails, Gives, wrong, ◌>>=◌}
 use Rattle.koika_check.specs.inner.Outcomes.{Stop, Tells}
 use Rattle.koika_check.specs.inner.Shapes.{AreShapes, IsShape, array_types, type_of_shape}
 use Rattle.koika_check.specs.inner.Shapes as shapes
-use Rattle.koika_check.specs.inner.Things.{AreParts, AreThings, thing_named}
-use Rattle.koika_check.specs.Types.{array, array_type, base_width, bits, enum_named, is_width, named_type, of_base, struct_named, type_by, type_named, type_of, width_of}
+use Rattle.koika_check.specs.inner.Things.{AreParts, AreThings, number_if, thing, thing_named}
+use Rattle.koika_check.specs.Types.{array, array_type, base_width, bits, is_width, named_type, of_base, type_by, type_named, type_of, width_of}
 use Rattle.koika_check.specs.declared.checked.Checked.{Checked}
 use Rattle.koika_check.specs.declared.checked.Input.{Input}
 use Rattle.koika_check.specs.declared.checked.Register.{Register}
-use Rattle.koika_check.specs.declared.checked.Struct.{Struct}
 use Rattle.koika_check.specs.declared.checker.Checker.{Checker}
 use Rattle.koika_check.specs.declared.locals.Bound.{Bound}
 use Rattle.koika_check.specs.declared.shapes.ArrayShape.{ArrayShape}
 use Rattle.koika_check.specs.declared.shapes.Shape.{Shape}
 use Rattle.koika_check.specs.declared.shapes.Shapes.{Shapes}
-use Rattle.koika_check.specs.declared.stop.Wrong.{Wrong}
 use Rattle.koika_check.specs.declared.things.Thing.{Thing}
-use Rattle.koika_check.specs.declared.things.Thing.TheVariants as thing
 use Rattle.koika_check.specs.declared.typed.BaseType.{BaseType}
 use Rattle.koika_check.specs.declared.typed.BaseType.TheVariants as base
 use Rattle.koika_check.specs.declared.typed.ValueType.{ValueType}
+use Rattle.koika_check.specs.Kinds.{names_of, number_named}
+use Rattle.koika_check.specs.declared.things.Kind.{Kind}
+use Rattle.koika_check.specs.declared.things.Kind.TheVariants as kind
 use Rattle.koika_check.proofs.ArrayTypes.{array_types-push, get-last, get-push, le_split, length_types}
+use Rattle.koika_check.proofs.Declared.{count-names, each-kind}
 use Rattle.koika_check.proofs.Growth.{shapes-kept}
 use Rattle.koika_check.proofs.Positions.{number_of-within}
-use Rattle.koika_check.proofs.Telling.{tells-found, unless-err, unless-with}
+use Rattle.koika_check.proofs.Telling.{unless-err, unless-with}
 
 -- nothing is declared
 abbrev pub empty : Checked
@@ -56,15 +53,19 @@ shape-base arrays (base.Struct n) = tt
 pub width-base : (d : Checked) (b : BaseType) → width_of d (of_base b) ≡ base_width d b
 width-base d b = omega arith
 
+-- what a name has is declared
+pub named-within : (k : Kind) (d : Checked) (name : List ℕ) (n : ℕ) → number_named k d name ≡ Some n → n < count_of k d
+named-within k d name n e = omega (arith, (number_of-within (names_of k d) name n e).0, count-names d k)
+
 -- a type that a name has is declared
 pub named-base : (d : Checked) (name : List ℕ) (b : BaseType) → type_named d name ≡ Some b → IsNamed d (shape_of b)
-named-base d name b e = by_kind (enum_named d name) (struct_named d name) b refl refl e
+named-base d name b e = by_kind (number_named kind.Enum d name) (number_named kind.Struct d name) b refl refl e
   where
-    by_kind : (o s : Option ℕ) (b : BaseType) → enum_named d name ≡ o → struct_named d name ≡ s → type_by o s ≡ Some b → IsNamed d (shape_of b)
+    by_kind : (o s : Option ℕ) (b : BaseType) → number_named kind.Enum d name ≡ o → number_named kind.Struct d name ≡ s → type_by o s ≡ Some b → IsNamed d (shape_of b)
     by_kind o s (base.Bits w) f g e = tt
     by_kind (Some n) s (base.Enum m) f g e =
         let same : n ≡ m = enum_number n m e in
-        omega (arith, same, (number_of-within (map (λ (x : EnumDecl). x.name) d.enums) name n f).0, length-map d.enums (λ (x : EnumDecl). x.name))
+        omega (arith, same, named-within kind.Enum d name n f)
       where
         enum_number : (n m : ℕ) → ◌≡◌ {A = Option BaseType} (Some (base.Enum n)) (Some (base.Enum m)) → n ≡ m
         enum_number n m e = cc
@@ -73,7 +74,7 @@ named-base d name b e = by_kind (enum_named d name) (struct_named d name) b refl
     by_kind (Some n) s (base.Struct m) f g e = absurd cc
     by_kind None (Some n) (base.Struct m) f g e =
         let same : n ≡ m = struct_number n m e in
-        omega (arith, same, (number_of-within (map (λ (x : Struct). x.name) d.structs) name n g).0, length-map d.structs (λ (x : Struct). x.name))
+        omega (arith, same, named-within kind.Struct d name n g)
       where
         struct_number : (n m : ℕ) → ◌≡◌ {A = Option BaseType} (Some (base.Struct n)) (Some (base.Struct m)) → n ≡ m
         struct_number n m e = cc
@@ -81,18 +82,11 @@ named-base d name b e = by_kind (enum_named d name) (struct_named d name) b refl
 
 -- the type that a name is declared as
 pub type-named : (d : Checked) (name : List ℕ) (t : Option Thing) → IsDeclared d name t → type_by_thing t ≡ type_named d name
-type-named d name t h = by_kind t ∙ ap₂ type_by h.enums h.structs
+type-named d name t h = by_thing t ∙ ap₂ type_by (h kind.Enum) (h kind.Struct)
   where
-    by_kind : (t : Option Thing) → type_by_thing t ≡ type_by (enum_by t) (struct_by t)
-    by_kind None = refl
-    by_kind (Some (thing.Enum n)) = refl
-    by_kind (Some (thing.Struct n)) = refl
-    by_kind (Some (thing.Register n)) = refl
-    by_kind (Some (thing.Input n)) = refl
-    by_kind (Some (thing.Table n)) = refl
-    by_kind (Some (thing.Host n)) = refl
-    by_kind (Some (thing.Function n)) = refl
-    by_kind (Some (thing.Rule n)) = refl
+    by_thing : (t : Option Thing) → type_by_thing t ≡ type_by (number_if kind.Enum t) (number_if kind.Struct t)
+    by_thing None = refl
+    by_thing (Some t) = each-kind (λ k. type_by_kind k t.number ≡ type_by (number_if kind.Enum (Some (thing k t.number))) (number_if kind.Struct (Some (thing k t.number)))) refl refl refl refl refl refl refl refl t.kind
 
 -- a name that is no type, and a type that is too wide
 pub named-none : (d : Checked) (n : Name) → type_named d n.text ≡ None → named_type d n ≡ Fails (wrong UNKNOWN_NAME n.place)
@@ -166,7 +160,7 @@ pub empty-checker : (c : Checker) → c.design ≡ empty → c.registers ≡ [] 
     AreThings c.things → ((name : List ℕ) → thing_named c.things name ≡ None) → AreParts c.parts → AreShapes c.shapes → AreLocals c.locals → All (λ (h : HostSpec). TakesWidth h.kind h.in_width) c.hosts → IsChecker c
 empty-checker c d registers inputs fields functions asserted arrays bound things none parts shapes locals hosts = record {
   things = things;
-  names = λ name. subst (λ x. IsDeclared x name (thing_named c.things name)) (sym d) (subst (IsDeclared empty name) (sym (none name)) (record { enums = refl; structs = refl; registers = refl; inputs = refl; tables = refl; hosts = refl; functions = refl; rules = refl }));
+  names = λ name. subst (λ x. IsDeclared x name (thing_named c.things name)) (sym d) (subst (IsDeclared empty name) (sym (none name)) (each-kind (λ k. None ≡ number_named k empty name) refl refl refl refl refl refl refl refl));
   parts = parts;
   members = λ n lt. absurd (omega (arith, lt, ap (λ (x : Checked). length x.enums) d));
   named_fields = λ n lt. absurd (omega (arith, lt, ap (λ (x : Checked). length x.structs) d));
@@ -204,9 +198,3 @@ pub array-ok : {Y Z : Type 0} (is : Y → ValueType → Type 0) (is' : Z → Val
 array-ok is is' d d' whole element l place item t y z e de ie te f h =
     let at_item = subst (λ u. Tells is (array_type d l place u) (Ok y)) (sym te) (subst (λ x. Tells is (array_type x l place t) (Ok y)) de h) in
     subst (λ o. Tells is' o (Ok z)) (sym (e ∙ ap (λ o. o >>= array_type d l place) ie)) (unless-with is is' _ (array l item) y z f at_item)
-
--- what a name has is declared
-pub named-within : {X : Type 0} (name_of : X → List ℕ) (xs : List X) (name : List ℕ) (w : Wrong) (r : Result ℕ Stop) → Tells (λ n of. n ≡ of) (found (number_of (map name_of xs) name) w) r → IfOk r (λ n. n < length xs)
-named-within name_of xs name w (Err e) h = tt
-named-within name_of xs name w (Ok n) h =
-    omega (arith, (number_of-within (map name_of xs) name n (tells-found (number_of (map name_of xs) name) w n h)).0, length-map xs name_of)

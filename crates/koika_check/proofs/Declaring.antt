@@ -13,14 +13,14 @@ use Rattle.koika_syntax.specs.declared.tree.Name.{Name}
 use Rattle.koika_syntax.specs.declared.tree.TypeExpression.{TypeExpression}
 use Rattle.koika_syntax.specs.declared.tree.Width.{Width}
 use Rattle.koika_types.specs.declared.value.Value.{Value}
-use Rattle.koika_check.specs.inner.Checking.{Grows, IsChecker, IsDeclared, IsWidth, Stands, arrays_of, enum_by, function_by, host_by, input_by, register_by, rule_by, scope_of, struct_by, table_by}
+use Rattle.koika_check.specs.inner.Checking.{Grows, IsChecker, IsDeclared, IsWidth, Stands, arrays_of, scope_of}
 use Rattle.koika_check.specs.Constants.{Known, constant_of}
 use Rattle.koika_check.specs.Declarations.{has_width, is_declared, new_name, register_known, register_of, register_typed, register_with, table_conditions}
 use Rattle.koika_check.specs.inner.Locals.{inside_of, local_of, locals_of}
 use Rattle.koika_check.specs.Outcomes.{Condition, Gives, CheckResult, ◌>>=◌, holds, smaller, smallest, where_all, wrong}
 use Rattle.koika_check.specs.inner.Outcomes.{Tells}
 use Rattle.koika_check.specs.inner.Settled.{IsSettled}
-use Rattle.koika_check.specs.inner.Things.{position_of}
+use Rattle.koika_check.specs.inner.Things.{number_if, position_of, thing}
 use Rattle.koika_check.specs.Types.{each, is_width, type_of}
 use Rattle.koika_check.specs.declared.checked.Checked.{Checked}
 use Rattle.koika_check.specs.declared.checked.Register.{Register}
@@ -29,32 +29,29 @@ use Rattle.koika_check.specs.declared.checker.Checker.{Checker}
 use Rattle.koika_check.specs.declared.locals.Bound.{Bound}
 use Rattle.koika_check.specs.declared.parts.Parts.{Parts}
 use Rattle.koika_check.specs.declared.things.Thing.{Thing}
-use Rattle.koika_check.specs.declared.things.Thing.TheVariants as thing
 use Rattle.koika_check.specs.declared.typed.ValueType.{ValueType}
 use Rattle.koika_check.specs.declared.types.NamedType.{NamedType}
+use Rattle.koika_check.specs.declared.things.Kind.{Kind}
+use Rattle.koika_check.specs.declared.things.Kind.TheVariants as kind
 use Rattle.koika_check.proofs.Checkers.{is-width}
+use Rattle.koika_check.proofs.Declared.{each-kind}
 use Rattle.koika_check.proofs.Growth.{stands-grows}
 use Rattle.koika_check.proofs.Telling.{tells-ok}
 
 -- a name is declared where it is declared as something
-some_of : (e s r i t h f u : Option ℕ) → Bool
-some_of e s r i t h f u = is_some e || is_some s || is_some r || is_some i || is_some t || is_some h || is_some f || is_some u
+some_of : (Kind → Option ℕ) → Bool
+some_of f =
+    is_some (f kind.Enum) || is_some (f kind.Struct) || is_some (f kind.Register) || is_some (f kind.Input) ||
+    is_some (f kind.Table) || is_some (f kind.Host) || is_some (f kind.Function) || is_some (f kind.Rule)
 
-by_thing : (t : Option Thing) → some_of (enum_by t) (struct_by t) (register_by t) (input_by t) (table_by t) (host_by t) (function_by t) (rule_by t) ≡ is_some t
+by_thing : (t : Option Thing) → some_of (λ k. number_if k t) ≡ is_some t
 unfolding some_of
 by_thing None = refl
-by_thing (Some (thing.Enum n)) = refl
-by_thing (Some (thing.Struct n)) = refl
-by_thing (Some (thing.Register n)) = refl
-by_thing (Some (thing.Input n)) = refl
-by_thing (Some (thing.Table n)) = refl
-by_thing (Some (thing.Host n)) = refl
-by_thing (Some (thing.Function n)) = refl
-by_thing (Some (thing.Rule n)) = refl
+by_thing (Some t) = each-kind (λ j. some_of (λ k. number_if k (Some (thing j t.number))) ≡ true) refl refl refl refl refl refl refl refl t.kind
 
 pub declared-is : (d : Checked) (name : List ℕ) (t : Option Thing) → IsDeclared d name t → is_declared d name ≡ is_some t
 unfolding some_of
-declared-is d name t h = rw (← h.enums, ← h.structs, ← h.registers, ← h.inputs, ← h.tables, ← h.hosts, ← h.functions, ← h.rules) (by_thing t)
+declared-is d name t h = rw (← h kind.Enum, ← h kind.Struct, ← h kind.Register, ← h kind.Input, ← h kind.Table, ← h kind.Host, ← h kind.Function, ← h kind.Rule) (by_thing t)
 
 pub new-name : (d : Checked) (n : Name) (t : Option Thing) (b : Bool) → IsDeclared d n.text t → is_some t ≡ b → new_name d n ≡ where_all (holds (not b) (wrong REPEATED_NAME n.place) ∷ []) n.text
 new-name d n t b h e = ap (λ c. where_all (holds (not c) (wrong REPEATED_NAME n.place) ∷ []) n.text) (declared-is d n.text t h ∙ e)
@@ -65,10 +62,10 @@ none_bound arrays arrays' names [] e = refl
 none_bound arrays arrays' names (b ∷ bs) e = absurd cc
 
 abbrev pub Parts_of : Parts → Checked → Type 0
-Parts_of p d = (number : ℕ) (name : List ℕ) → number < 2 ^ 32 → length d.enums ≤ number → position_of p (thing.Enum number) name ≡ None
+Parts_of p d = (number : ℕ) (name : List ℕ) → number < 2 ^ 32 → length d.enums ≤ number → position_of p (thing kind.Enum number) name ≡ None
 
 abbrev pub Fields_of : Parts → Checked → Type 0
-Fields_of p d = (number : ℕ) (name : List ℕ) → number < 2 ^ 32 → length d.structs ≤ number → position_of p (thing.Struct number) name ≡ None
+Fields_of p d = (number : ℕ) (name : List ℕ) → number < 2 ^ 32 → length d.structs ≤ number → position_of p (thing kind.Struct number) name ≡ None
 
 pub settled-grows : (a b : Checker) → IsSettled a → IsChecker b → Grows a b → b.locals ≡ a.locals → IsSettled b
 settled-grows a b h kept g e = record {

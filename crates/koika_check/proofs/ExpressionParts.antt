@@ -22,7 +22,9 @@ use Rattle.koika_check.specs.Expressions.{Armed, Fielded, Joining, ExpressionTyp
 use Rattle.koika_check.specs.inner.Expressions.{arm_in, expression_in, field_value_in, operand_in, statement_in}
 use Rattle.koika_check.specs.Outcomes.{Gives, CheckResult, ◌>>=◌, found, in_turn, wrong}
 use Rattle.koika_check.specs.Scopes.{Scope, called, register}
-use Rattle.koika_check.specs.Types.{struct_named, type_of}
+use Rattle.koika_check.specs.Types.{type_of}
+use Rattle.koika_check.specs.Kinds.{number_named}
+use Rattle.koika_check.specs.declared.things.Kind.TheVariants as kind
 use Rattle.koika_check.proofs.Turns.{turn-map}
 
 pub expression-Literal : (l : Literal) (s : Scope) → expression_in (variants.Literal l) s ≡ (Gives (literal l))
@@ -117,8 +119,8 @@ expression-Array place elements s =
     ap (λ e. expression_in e s) (sym (views.rolls-Array place elements)) ∙ ap (λ m. m s) (fold-roll-Expression ExpressionTyping StatementTyping Armed ExpressionTyping Fielded Joining expression_step statement_step arm_step block_step field_value_step operand_step (opened.Array place elements))
     ∙ ap (λ (o : CheckResult (List Typing)). o >>= array_in s.design place) (turn-map (λ (m : ExpressionTyping). m s) expression_in elements)
 
-pub expression-Struct : (of : Name) (fields : List FieldValue) (close : ℕ) (s : Scope) → expression_in (views.Struct of fields close) s ≡ (found (struct_named s.design of.text) (wrong UNKNOWN_NAME of.place) >>= λ number. in_turn (λ f. field_value_in f s) fields >>= struct_in s.design number of.place close)
+pub expression-Struct : (of : Name) (fields : List FieldValue) (close : ℕ) (s : Scope) → expression_in (views.Struct of fields close) s ≡ (found (number_named kind.Struct s.design of.text) (wrong UNKNOWN_NAME of.place) >>= λ number. in_turn (λ f. field_value_in f s) fields >>= struct_in s.design number of.place close)
 unfolding expression_in statement_in arm_in block_in field_value_in operand_in
 expression-Struct of fields close s =
     ap (λ e. expression_in e s) (sym (views.rolls-Struct of fields close)) ∙ ap (λ m. m s) (fold-roll-Expression ExpressionTyping StatementTyping Armed ExpressionTyping Fielded Joining expression_step statement_step arm_step block_step field_value_step operand_step (opened.Struct of fields close))
-    ∙ ap (λ (o : CheckResult (List FieldTyping)). found (struct_named s.design of.text) (wrong UNKNOWN_NAME of.place) >>= λ number. o >>= struct_in s.design number of.place close) (turn-map (λ (m : Fielded). m s) field_value_in fields)
+    ∙ ap (λ (o : CheckResult (List FieldTyping)). found (number_named kind.Struct s.design of.text) (wrong UNKNOWN_NAME of.place) >>= λ number. o >>= struct_in s.design number of.place close) (turn-map (λ (m : Fielded). m s) field_value_in fields)

@@ -4,27 +4,26 @@ use Rattle.std.specs.Prelude.{reverse}
 use Rattle.std.specs.List.{All}
 use Rattle.std.specs.Option.{option_map}
 use Rattle.std.proofs.Math.Nat.{mul-le-mul_left, mul-le-mul_right}
-use Rattle.std.proofs.lemmas.List.{map-append, reverse-append, take_all}
+use Rattle.std.proofs.lemmas.List.{take_all}
 use Rattle.std.proofs.lemmas.List.Elements.{All-head, All-tail}
 use Rattle.std.proofs.lemmas.List.Sums.{sum_by-cons, sum_by-le}
 use Rattle.std.proofs.lemmas.Option.{slice_get-map}
 use Rattle.koika_types.proofs.Sizes.{sum_by-map}
 use Rattle.typed_core.specs.declared.design.Node.{Node}
-use Rattle.koika_check.specs.BitWeights as weights
-use Rattle.koika_check.specs.BitWeights.{Gauge, bodies_after, bit_weight, function_body, gauge_of, node_squares, register_bits, rule_squares, squares_if, squares_of}
-use Rattle.koika_check.specs.inner.Gauges.{cap}
+use Rattle.koika_check.specs.BitWeights.{bit_weight, bodies_after, node_squares, register_bits, rule_squares, squares, squares_if, squares_of}
+use Rattle.koika_check.specs.inner.BitWeights.{cap}
 use Rattle.koika_check.specs.Sizes as sizes
 use Rattle.koika_check.specs.Sizes.{Size, bodies_behind, design_size, node_weights, rests, rule_sizes, size_of}
-use Rattle.koika_check.specs.Types.{width_of}
 use Rattle.koika_check.specs.Typing.{HasType, IsRegister, IsType, IsTypedDesign}
 use Rattle.koika_check.specs.declared.checked.Checked.{Checked}
 use Rattle.koika_check.specs.declared.checked.CheckedFunction.{CheckedFunction}
 use Rattle.koika_check.specs.declared.checked.Register.{Register}
 use Rattle.koika_check.specs.declared.checked.CheckedRule.{CheckedRule}
 use Rattle.koika_check.proofs.Accumulations.{accumulated, accumulated-at}
-use Rattle.koika_check.proofs.Gauging.{gauges-are}
-use Rattle.koika_check.proofs.TypedGauges.{IsFine, typed-fine}
+use Rattle.koika_check.proofs.Squares.{bodies-are, function_squares}
+use Rattle.koika_check.proofs.TypedAdditions.{all-reverse}
 use Rattle.koika_check.proofs.TypedSoFar.{all-at}
+use Rattle.koika_check.proofs.TypedSquares.{typed-few}
 
 -- ---- functions
 
@@ -36,54 +35,35 @@ sizes-are : (d : Checked) (before : List Size) (fs : List CheckedFunction) → b
 sizes-are d before [] = refl
 sizes-are d before (f ∷ fs) = sizes-are d (before ++ function_size d before f ∷ []) fs
 
-map-reverse : {X Y : Type 0} (f : X → Y) (xs : List X) → map f (reverse xs) ≡ reverse (map f xs)
-map-reverse f [] = refl
-map-reverse f (x ∷ xs) =
-    ap (map f) (reverse-append (x ∷ []) xs) ∙ map-append f (reverse xs) (x ∷ []) ∙ ap (λ ys. ys ++ f x ∷ []) (map-reverse f xs) ∙ sym (reverse-append (f x ∷ []) (map f xs))
-
-All-push : {X : Type 0} (P : X → Type 0) (xs : List X) (x : X) → All P xs → P x → All P (xs ++ x ∷ [])
-All-push P [] x all p zero b lt = p
-All-push P [] x all p (suc k) b lt = absurd (omega arith)
-All-push P (y ∷ xs) x all p zero b lt = all zero b (omega arith)
-All-push P (y ∷ xs) x all p (suc k) b lt = All-push P xs x (All-tail P y xs all) p k b (omega arith)
-
-All-reverse : {X : Type 0} (P : X → Type 0) (xs : List X) → All P xs → All P (reverse xs)
-All-reverse P [] all = all
-All-reverse P (x ∷ xs) all = subst (All P) (sym (reverse-append (x ∷ []) xs)) (All-push P (reverse xs) x (All-reverse P xs (All-tail P x xs all)) (All-head P x xs all))
-
 module _ (d : Checked) (h : IsTypedDesign d) where
-  abbrev gauges : ℕ → List Gauge
-  gauges n = accumulated (function_body d) [] (take n d.functions)
+  abbrev counted : ℕ → List ℕ
+  counted n = accumulated function_squares [] (take n d.functions)
 
   abbrev weighed : ℕ → List Size
   weighed n = accumulated (function_size d) [] (take n d.functions)
 
-  abbrev BodyFine : ℕ → CheckedFunction → Type 0
-  BodyFine number f = IsFine d f.result (function_body d (gauges number) f) (function_size d (weighed number) f).weight
+  abbrev BodyFew : ℕ → CheckedFunction → Type 0
+  BodyFew number f = squares (counted number) f.body ≤ 16384 * (function_size d (weighed number) f).weight
 
-  abbrev CallsFine : ℕ → Type 0
-  CallsFine n = (number : ℕ) (f : CheckedFunction) → number < n → slice_get d.functions number ≡ Some f → IsFine d f.result (weights.body_of (slice_get (gauges n) number)) (sizes.body_of (slice_get (weighed n) number)).weight
+  abbrev CallsFew : ℕ → Type 0
+  CallsFew n = (number : ℕ) (f : CheckedFunction) → number < n → slice_get d.functions number ≡ Some f → squares_if (slice_get (counted n) number) ≤ 16384 * (sizes.body_of (slice_get (weighed n) number)).weight
 
-  -- calls of functions whose bodies are fine
-  called : (n number : ℕ) (f : CheckedFunction) → number < n → slice_get d.functions number ≡ Some f → BodyFine number f →
-      IsFine d f.result (weights.body_of (slice_get (gauges n) number)) (sizes.body_of (slice_get (weighed n) number)).weight
-  called n number f lt at fine =
-      subst (λ (o : Option Gauge). IsFine d f.result (weights.body_of o) (sizes.body_of (slice_get (weighed n) number)).weight) (sym (accumulated-at (function_body d) d.functions n number f lt at))
-      (subst (λ (o : Option Size). IsFine d f.result (function_body d (gauges number) f) (sizes.body_of o).weight) (sym (accumulated-at (function_size d) d.functions n number f lt at)) fine)
+  -- calls of functions whose bodies have few
+  called : (n number : ℕ) (f : CheckedFunction) → number < n → slice_get d.functions number ≡ Some f → BodyFew number f →
+      squares_if (slice_get (counted n) number) ≤ 16384 * (sizes.body_of (slice_get (weighed n) number)).weight
+  called n number f lt at few =
+      subst (λ (o : Option ℕ). squares_if o ≤ 16384 * (sizes.body_of (slice_get (weighed n) number)).weight) (sym (accumulated-at function_squares d.functions n number f lt at))
+      (subst (λ (o : Option Size). squares (counted number) f.body ≤ 16384 * (sizes.body_of o).weight) (sym (accumulated-at (function_size d) d.functions n number f lt at)) few)
 
-  body-fine : (number : ℕ) (f : CheckedFunction) → slice_get d.functions number ≡ Some f → CallsFine number → BodyFine number f
-  body-fine number f at calls =
+  bodies-few : (bound number : ℕ) (f : CheckedFunction) → number < bound → slice_get d.functions number ≡ Some f → BodyFew number f
+  bodies-few zero number f lt at = absurd (omega arith)
+  bodies-few (suc bound) number f lt at =
       let is = h.functions number f at in
-      subst (λ (ws : List ℕ). IsFine d f.result (gauge_of (record { design = d; bodies = gauges number }) f.body ws) (function_size d (weighed number) f).weight) (map-reverse (width_of d) f.parameters)
-      (typed-fine d h number (gauges number) (weighed number) calls f.body (reverse f.parameters) f.result (All-reverse (IsType d) f.parameters is.parameters) is.body)
+      typed-few d h number (counted number) (weighed number) (λ k g below here. called number k g below here (bodies-few bound k g (omega (arith, below, lt)) here))
+      f.body (reverse f.parameters) f.result (all-reverse (IsType d) f.parameters is.parameters) is.body
 
-  bodies-fine : (bound number : ℕ) (f : CheckedFunction) → number < bound → slice_get d.functions number ≡ Some f → BodyFine number f
-  bodies-fine zero number f lt at = absurd (omega arith)
-  bodies-fine (suc bound) number f lt at =
-      body-fine number f at (λ k g below here. called number k g below here (bodies-fine bound k g (omega (arith, below, lt)) here))
-
-  calls-fine : (n : ℕ) → CallsFine n
-  calls-fine n number f lt at = called n number f lt at (bodies-fine (suc number) number f (omega arith) at)
+  calls-few : (n : ℕ) → CallsFew n
+  calls-few n number f lt at = called n number f lt at (bodies-few (suc number) number f (omega arith) at)
 
   -- ---- rules
 
@@ -96,11 +76,11 @@ module _ (d : Checked) (h : IsTypedDesign d) where
   few-of-rule : (r : CheckedRule) → HasType d (length d.functions) r.body [] None → rule_squares d r ≤ 16384 * rule_weight r
   few-of-rule r has =
       let n = length d.functions in
-      let fine = typed-fine d h n (gauges n) (weighed n) (calls-fine n) r.body [] None (λ k b lt. absurd (omega (arith, lt))) has in
-      let same : gauges n ≡ bodies_after d [] d.functions = ap (accumulated (function_body d) []) all_functions ∙ sym (gauges-are d [] d.functions) in
+      let few = typed-few d h n (counted n) (weighed n) (calls-few n) r.body [] None (λ k b lt. absurd (omega (arith, lt))) has in
+      let same : counted n ≡ bodies_after [] d.functions = ap (accumulated function_squares []) all_functions ∙ sym (bodies-are [] d.functions) in
       let same_too : weighed n ≡ bodies_behind d [] d.functions = ap (accumulated (function_size d) []) all_functions ∙ sym (sizes-are d [] d.functions) in
-      subst (λ (gs : List Gauge). (gauge_of (record { design = d; bodies = gs }) r.body []).squares ≤ 16384 * rule_weight r) same
-      (subst (λ (ss : List Size). (gauge_of (record { design = d; bodies = gauges n }) r.body []).squares ≤ 16384 * (size_of (record { design = d; bodies = ss }) r.body).weight) same_too fine.squares)
+      subst (λ (bs : List ℕ). squares bs r.body ≤ 16384 * rule_weight r) same
+      (subst (λ (ss : List Size). squares (counted n) r.body ≤ 16384 * (size_of (record { design = d; bodies = ss }) r.body).weight) same_too few)
 
   few-by-item : {X : Type 0} (f g : X → ℕ) (xs : List X) → All (λ x. f x ≤ 16384 * g x) xs → sum_by f xs ≤ 16384 * sum_by g xs
   few-by-item f g [] all = omega arith
@@ -119,16 +99,16 @@ module _ (d : Checked) (h : IsTypedDesign d) where
   few-of-node : (n : Node) → node_squares d n ≤ 16384 * (sizes.body_of (slice_get (rule_sizes d) n.rule)).weight
   few-of-node n = by_rule (slice_get d.rules n.rule) refl
     where
-      sized : (o : Option CheckedRule) → slice_get d.rules n.rule ≡ o → slice_get (rule_sizes d) n.rule ≡ option_map (λ (r : CheckedRule). size_of (rests d) r.body) o
-      sized o e = slice_get-map (λ (r : CheckedRule). size_of (rests d) r.body) d.rules n.rule ∙ ap (option_map (λ (r : CheckedRule). size_of (rests d) r.body)) e
+      mapped : {X : Type 0} (f : CheckedRule → X) (o : Option CheckedRule) → slice_get d.rules n.rule ≡ o → slice_get (map f d.rules) n.rule ≡ option_map f o
+      mapped f o e = slice_get-map f d.rules n.rule ∙ ap (option_map f) e
 
       by_rule : (o : Option CheckedRule) → slice_get d.rules n.rule ≡ o → node_squares d n ≤ 16384 * (sizes.body_of (slice_get (rule_sizes d) n.rule)).weight
       by_rule None e =
-          let none : node_squares d n ≡ 0 = ap (squares_if d) e in
+          let none : node_squares d n ≡ 0 = ap squares_if (mapped (rule_squares d) None e) in
           omega (arith, none)
       by_rule (Some r) e =
-          let some : node_squares d n ≡ rule_squares d r = ap (squares_if d) e in
-          let weight : (sizes.body_of (slice_get (rule_sizes d) n.rule)).weight ≡ rule_weight r = ap (λ (o : Option Size). (sizes.body_of o).weight) (sized (Some r) e) in
+          let some : node_squares d n ≡ rule_squares d r = ap squares_if (mapped (rule_squares d) (Some r) e) in
+          let weight : (sizes.body_of (slice_get (rule_sizes d) n.rule)).weight ≡ rule_weight r = ap (λ (o : Option Size). (sizes.body_of o).weight) (mapped (λ (s : CheckedRule). size_of (rests d) s.body) (Some r) e) in
           let few = few-of-rule r (all-at (λ (s : CheckedRule). HasType d (length d.functions) s.body [] None) d.rules n.rule r h.rules e) in
           omega (arith, some, weight, few)
 

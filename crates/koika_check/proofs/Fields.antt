@@ -6,7 +6,7 @@ use Rattle.koika_check.specs.inner.Checking.{AreTypes, Grows, IsChecker, Stands}
 use Rattle.koika_check.specs.Declarations.{names_of_fields}
 use Rattle.koika_check.specs.inner.Listed.{AreFields, GrowsInParts, Keeps, Lists}
 use Rattle.koika_check.specs.inner.Settled.{IsSettled}
-use Rattle.koika_check.specs.inner.Things.{AreParts, thing_named}
+use Rattle.koika_check.specs.inner.Things.{AreParts, thing, thing_named}
 use Rattle.koika_check.specs.Types.{width_of}
 use Rattle.koika_check.specs.declared.checked.Checked.{Checked}
 use Rattle.koika_check.specs.declared.checked.CheckedField.{CheckedField}
@@ -15,24 +15,24 @@ use Rattle.koika_check.specs.declared.parts.Parts.{Parts}
 use Rattle.koika_check.specs.declared.shapes.Shape.{Shape}
 use Rattle.koika_check.specs.declared.structs.Fields.{Fields}
 use Rattle.koika_check.specs.declared.checked.Struct.{Struct}
-use Rattle.koika_check.specs.declared.things.Thing.TheVariants as thing
 use Rattle.koika_check.specs.declared.things.Things.{Things}
 use Rattle.koika_check.specs.declared.typed.ValueType.{ValueType}
+use Rattle.koika_check.specs.declared.things.Kind.TheVariants as kind
 use Rattle.koika_check.proofs.Added.{Declares, kept, types-push}
 use Rattle.koika_check.proofs.AddedTypes.{added-struct}
 use Rattle.koika_check.proofs.Declaring.{settled-grows}
 use Rattle.koika_check.proofs.Growth.{grows-trans, types-grow}
 use Rattle.koika_check.proofs.Extensions.{more-same}
-use Rattle.koika_check.proofs.Listing.{enum-struct, other-struct}
+use Rattle.koika_check.proofs.Listing.{enum-struct, other-number}
 
 -- the parts of a struct that isn't declared yet
-pub parts-kept : (a : Checker) → IsChecker a → (p : Parts) (k : ℕ) → AreParts p → Keeps a.parts p (thing.Struct k) → length a.design.structs ≤ k → k < 2 ^ 32 → IsChecker (record a { parts = p })
+pub parts-kept : (a : Checker) → IsChecker a → (p : Parts) (k : ℕ) → AreParts p → Keeps a.parts p (thing kind.Struct k) → length a.design.structs ≤ k → k < 2 ^ 32 → IsChecker (record a { parts = p })
 parts-kept a h p k are keeps le small = kept a _ (record { design = more-same a.design; shapes = refl }) h (record {
   things = h.things;
   names = h.names;
   parts = are;
-  members = λ number lt name. keeps (thing.Enum number) name (enum-struct number k) ∙ h.members number lt name;
-  named_fields = λ number lt name. keeps (thing.Struct number) name (other-struct number k (omega (arith, lt, le, small)) small (λ q. omega (arith, q, lt, le))) ∙ h.named_fields number lt name;
+  members = λ number lt name. keeps (thing kind.Enum number) name (enum-struct number k) ∙ h.members number lt name;
+  named_fields = λ number lt name. keeps (thing kind.Struct number) name (other-number kind.Struct number k (omega (arith, lt, le, small)) small (λ q. omega (arith, q, lt, le))) ∙ h.named_fields number lt name;
   widths = h.widths;
   registers = h.registers;
   inputs = h.inputs;
@@ -107,12 +107,12 @@ types-back s p shapes of h = record { are = h.are; each = λ k d lt. let t = h.e
 
 -- one more struct, behind its fields
 pub struct-settled : (a s : Checker) → IsSettled a → IsChecker s → GrowsInParts a s → s.locals ≡ a.locals → (x : Struct) (shapes : List Shape) (name : List ℕ) (t : Things) (k : ℕ) → k ≡ length s.design.structs → k < 2 ^ 32 →
-    Keeps a.parts s.parts (thing.Struct k) → Lists s.parts (thing.Struct k) (names_of_fields x.fields) → x.name ≡ name → thing_named s.things name ≡ None → Declares s.things name (thing.Struct k) t →
+    Keeps a.parts s.parts (thing kind.Struct k) → Lists s.parts (thing kind.Struct k) (names_of_fields x.fields) → x.name ≡ name → thing_named s.things name ≡ None → Declares s.things name (thing kind.Struct k) t →
     AreTypes s shapes (map (λ (f : CheckedField). f.of) x.fields) → x.width ≡ min (sum_by (λ (f : CheckedField). width_of s.design f.of) x.fields) 129 →
     IsSettled (record s { design = record s.design { structs = s.design.structs ++ x ∷ [] }; things = t; fields = s.fields ++ shapes ∷ [] })
 struct-settled a s h hs g locals x shapes name t k ke small keeps lists is new declares types width =
     let b : Checker = record s { parts = a.parts } in
     let kb : IsChecker b = parts-kept s hs a.parts k h.checker.parts (λ other n ne. sym (keeps other n ne)) (omega (arith, ke)) small in
     let hb : IsSettled b = settled-grows a b h kb g locals in
-    added-struct b hb x shapes name t s.parts is new (subst (λ n. Declares s.things name (thing.Struct n) t) ke declares) (subst (λ n. n < 2 ^ 32) ke small) hs.parts
-    (subst (λ n. Keeps a.parts s.parts (thing.Struct n)) ke keeps) (subst (λ n. Lists s.parts (thing.Struct n) (names_of_fields x.fields)) ke lists) (types-back s a.parts shapes (map (λ (f : CheckedField). f.of) x.fields) types) width
+    added-struct b hb x shapes name t s.parts is new (subst (λ n. Declares s.things name (thing kind.Struct n) t) ke declares) (subst (λ n. n < 2 ^ 32) ke small) hs.parts
+    (subst (λ n. Keeps a.parts s.parts (thing kind.Struct n)) ke keeps) (subst (λ n. Lists s.parts (thing kind.Struct n) (names_of_fields x.fields)) ke lists) (types-back s a.parts shapes (map (λ (f : CheckedField). f.of) x.fields) types) width

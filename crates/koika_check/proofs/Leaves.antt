@@ -9,7 +9,7 @@ use Rattle.koika_check.specs.Constructs.{typing}
 use Rattle.koika_check.specs.Constructs as constructs
 use Rattle.koika_check.specs.Outcomes.{Fails, Gives, CheckResult, found, holds, where_all, wrong}
 use Rattle.koika_check.specs.inner.Outcomes.{Ends, Stop, Tells}
-use Rattle.koika_check.specs.Scopes.{Scope, input_named, local_named}
+use Rattle.koika_check.specs.Scopes.{Scope, local_named}
 use Rattle.koika_check.specs.inner.Shapes.{Denotes, type_if}
 use Rattle.koika_check.specs.Types.{TypedPart as TypedPart, as_bits, bits, is_bits, width_of, wrong_type}
 use Rattle.koika_check.specs.declared.checked.Checked.{Checked}
@@ -21,6 +21,8 @@ use Rattle.kw_bits.specs.declared.failure.Failure.TheVariants as failures
 use Rattle.koika_check.specs.declared.typed.Typed.{Typed}
 use Rattle.koika_check.specs.declared.typed.Typed.TheVariants as made
 use Rattle.koika_check.specs.declared.typed.ValueType.{ValueType}
+use Rattle.koika_check.specs.Kinds.{number_named}
+use Rattle.koika_check.specs.declared.things.Kind.TheVariants as kind
 use Rattle.koika_check.proofs.PartTypes.{named_item}
 
 -- a value that is made, or no memory
@@ -69,7 +71,7 @@ bit-width d w h = record { some = omega (arith, h.some); most = omega (arith, h.
 
 -- ---- names
 
-pub named-input : (s : Scope) (n : Name) (number : ℕ) (t : ValueType) → local_named s.locals n.text ≡ None → input_named s.design n.text ≡ Some number → option_map (λ (i : Input). i.of) (slice_get s.design.inputs number) ≡ Some t →
+pub named-input : (s : Scope) (n : Name) (number : ℕ) (t : ValueType) → local_named s.locals n.text ≡ None → number_named kind.Input s.design n.text ≡ Some number → option_map (λ (i : Input). i.of) (slice_get s.design.inputs number) ≡ Some t →
     constructs.named s n ≡ Gives (typing (Some t) n.place (made.Input number))
 named-input s n number t l i e = by_input (slice_get s.design.inputs number) refl e
   where
@@ -77,7 +79,7 @@ named-input s n number t l i e = by_input (slice_get s.design.inputs number) ref
     by_input None g e = absurd cc
     by_input (Some one) g e = rw (l, i, g) (ap (λ o. Gives (typing o n.place (made.Input number))) e)
 
-pub named-unknown : (s : Scope) (n : Name) → local_named s.locals n.text ≡ None → input_named s.design n.text ≡ None → constructs.named s n ≡ Fails (wrong UNKNOWN_NAME n.place)
+pub named-unknown : (s : Scope) (n : Name) → local_named s.locals n.text ≡ None → number_named kind.Input s.design n.text ≡ None → constructs.named s n ≡ Fails (wrong UNKNOWN_NAME n.place)
 named-unknown s n l i = rw (l, i) refl
 
 -- why checking ends, as a call tells it

@@ -10,34 +10,21 @@ use Rattle.koika_syntax.specs.declared.tree.Name.{Name}
 use Rattle.koika_check.specs.Declarations.{other_name}
 use Rattle.koika_check.specs.inner.Listed.{Keeps, Lists}
 use Rattle.koika_check.specs.Outcomes.{holds, where_all, wrong}
-use Rattle.koika_check.specs.inner.Things.{key_of_declaration, key_of_part, position_of}
+use Rattle.koika_check.specs.inner.Things.{key_of_declaration, key_of_part, position_of, thing}
 use Rattle.koika_check.specs.declared.parts.Parts.{Parts}
+use Rattle.koika_check.specs.declared.things.Kind.{Kind}
 use Rattle.koika_check.specs.declared.things.Thing.{Thing}
-use Rattle.koika_check.specs.declared.things.Thing.TheVariants as thing
+use Rattle.koika_check.specs.declared.things.Kind.TheVariants as kind
 use Rattle.koika_check.proofs.Declared.{number-push}
 use Rattle.koika_check.proofs.Positions.{same, same-is}
 use Rattle.koika_check.proofs.Bindings.{not_true}
 
 -- what stands behind, and in front of, a declaration's key
 name_of : (t : Thing) (name : List ℕ) → drop 5 (key_of_part t name) ≡ name
-name_of (thing.Enum n) name = refl
-name_of (thing.Struct n) name = refl
-name_of (thing.Register n) name = refl
-name_of (thing.Input n) name = refl
-name_of (thing.Table n) name = refl
-name_of (thing.Host n) name = refl
-name_of (thing.Function n) name = refl
-name_of (thing.Rule n) name = refl
+name_of t name = refl
 
 declaration_of : (t : Thing) (name : List ℕ) → take 5 (key_of_part t name) ≡ key_of_declaration t
-declaration_of (thing.Enum n) name = refl
-declaration_of (thing.Struct n) name = refl
-declaration_of (thing.Register n) name = refl
-declaration_of (thing.Input n) name = refl
-declaration_of (thing.Table n) name = refl
-declaration_of (thing.Host n) name = refl
-declaration_of (thing.Function n) name = refl
-declaration_of (thing.Rule n) name = refl
+declaration_of t name = refl
 
 pub false_true : false ≡ true → ⊥
 false_true e = cc
@@ -55,22 +42,19 @@ other_key : (t u : Thing) (name name' : List ℕ) → key_of_declaration u ≢ k
 other_key t u name name' ne = not_true (bytes_eq (key_of_part u name) (key_of_part t name')) (λ k.
     ne (sym (declaration_of u name) ∙ ap (take 5) (same-is (key_of_part u name) (key_of_part t name') k) ∙ declaration_of t name'))
 
--- enums and structs with other numbers have other keys
-pub other-enum : (n m : ℕ) → n < 2 ^ 32 → m < 2 ^ 32 → n ≢ m → key_of_declaration (thing.Enum n) ≢ key_of_declaration (thing.Enum m)
-other-enum n m ln lm ne e = ne (sym (from_le_bytes-to_le_bytes_4 n ln) ∙ ap (λ k. from_le_bytes w32 (drop 1 k)) e ∙ from_le_bytes-to_le_bytes_4 m lm)
-
-pub other-struct : (n m : ℕ) → n < 2 ^ 32 → m < 2 ^ 32 → n ≢ m → key_of_declaration (thing.Struct n) ≢ key_of_declaration (thing.Struct m)
-other-struct n m ln lm ne e = ne (sym (from_le_bytes-to_le_bytes_4 n ln) ∙ ap (λ k. from_le_bytes w32 (drop 1 k)) e ∙ from_le_bytes-to_le_bytes_4 m lm)
+-- two of a kind with other numbers have other keys
+pub other-number : (k : Kind) (n m : ℕ) → n < 2 ^ 32 → m < 2 ^ 32 → n ≢ m → key_of_declaration (thing k n) ≢ key_of_declaration (thing k m)
+other-number k n m ln lm ne e = ne (sym (from_le_bytes-to_le_bytes_4 n ln) ∙ ap (λ key. from_le_bytes w32 (drop 1 key)) e ∙ from_le_bytes-to_le_bytes_4 m lm)
 
 head_of : List ℕ → ℕ
 head_of [] = 0
 head_of (x ∷ xs) = x
 
-pub enum-struct : (n m : ℕ) → key_of_declaration (thing.Enum n) ≢ key_of_declaration (thing.Struct m)
+pub enum-struct : (n m : ℕ) → key_of_declaration (thing kind.Enum n) ≢ key_of_declaration (thing kind.Struct m)
 unfolding head_of
 enum-struct n m e = let tags : ◌≡◌ {A = ℕ} 0 1 = ap head_of e in cc
 
-pub struct-enum : (n m : ℕ) → key_of_declaration (thing.Struct n) ≢ key_of_declaration (thing.Enum m)
+pub struct-enum : (n m : ℕ) → key_of_declaration (thing kind.Struct n) ≢ key_of_declaration (thing kind.Enum m)
 unfolding head_of
 struct-enum n m e = let tags : ◌≡◌ {A = ℕ} 1 0 = ap head_of e in cc
 

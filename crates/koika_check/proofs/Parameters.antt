@@ -21,7 +21,7 @@ use Rattle.koika_check.specs.inner.Parameters.{AreParameters}
 use Rattle.koika_check.specs.Scopes.{Local, Scope}
 use Rattle.koika_check.specs.inner.Settled.{IsSettled}
 use Rattle.koika_check.specs.inner.Shapes.{AreArrays, AreShapes, IsShapeIf, part_of, type_if, type_of_shape}
-use Rattle.koika_check.specs.inner.Things.{AreParts, AreThings, position_of, thing_named}
+use Rattle.koika_check.specs.inner.Things.{AreParts, AreThings, position_of, thing, thing_named}
 use Rattle.koika_check.specs.Types.{TypedPart as TypedPart, agrees, type_of}
 use Rattle.koika_check.specs.declared.agreement.Part.{Part}
 use Rattle.koika_check.specs.declared.checked.Checked.{Checked}
@@ -31,9 +31,9 @@ use Rattle.koika_check.specs.declared.locals.Bound.{Bound}
 use Rattle.koika_check.specs.declared.locals.Locals.{Locals}
 use Rattle.koika_check.specs.declared.shapes.Shape.{Shape}
 use Rattle.koika_check.specs.declared.things.Thing.{Thing}
-use Rattle.koika_check.specs.declared.things.Thing.TheVariants as thing
 use Rattle.koika_check.specs.declared.typed.Typed.{Typed}
 use Rattle.koika_check.specs.declared.typed.ValueType.{ValueType}
+use Rattle.koika_check.specs.declared.things.Kind.TheVariants as kind
 use Rattle.koika_check.proofs.Added.{types-push}
 use Rattle.koika_check.proofs.Checkers.{empty, empty-checker}
 use Rattle.koika_check.proofs.Declaring.{named-gives, settled-scope}
@@ -119,8 +119,8 @@ pub empty-settled : (c : Checker) → c.design ≡ empty → c.registers ≡ [] 
 empty-settled c d registers inputs fields functions asserted arrays bound things none are parts shapes locals hosts = record {
   checker = empty-checker c d registers inputs fields functions asserted arrays bound things none are shapes locals hosts;
   unbound = none-bound (arrays_of c) c.locals (ap (λ (bs : List Bound). length bs) bound);
-  no_members = λ number name small le. parts (thing.Enum number) name;
-  no_fields = λ number name small le. parts (thing.Struct number) name;
+  no_members = λ number name small le. parts (thing kind.Enum number) name;
+  no_fields = λ number name small le. parts (thing kind.Struct number) name;
 }
 
 pub left-settled : (a b : Checker) → IsSettled a → IsChecker b → Grows a b → (l : Locals) → AreLocals l → shapes_of l ≡ take 0 (shapes_of b.locals) → length l.bound ≡ 0 → IsSettled (record b { locals = l })

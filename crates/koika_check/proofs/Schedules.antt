@@ -15,8 +15,9 @@ use Rattle.koika_check.specs.Outcomes.{Gives, CheckResult, ◌>>=◌, found, hol
 use Rattle.koika_check.specs.inner.Paths.{is_end, next_at}
 use Rattle.koika_check.specs.Schedule.{Nodes, at_the_end, nodes_of_choice, first_of, in_a_row, is_on, longer, path_behind, scheduler_nodes, nodes_of_scheduler, tried}
 use Rattle.koika_check.specs.inner.Schedule.{choice_nodes}
-use Rattle.koika_check.specs.Scopes.{rule_named}
 use Rattle.koika_check.specs.declared.checked.Checked.{Checked}
+use Rattle.koika_check.specs.Kinds.{number_named}
+use Rattle.koika_check.specs.declared.things.Kind.TheVariants as kind
 use Rattle.koika_check.proofs.Answering.{bind-gives, next-drop}
 
 -- ---- schedulers by their parts
@@ -172,7 +173,7 @@ path-more d (n ∷ names) path behind e =
     same a b e = cc
 
 -- a name of a rule, by whether the rule is on the path
-pub tried-is : (d : Checked) (path : List ℕ) (n : Name) (rule : ℕ) (on : Bool) → rule_named d n.text ≡ Some rule → is_on rule path ≡ on →
+pub tried-is : (d : Checked) (path : List ℕ) (n : Name) (rule : ℕ) (on : Bool) → number_named kind.Rule d n.text ≡ Some rule → is_on rule path ≡ on →
     tried d path n ≡ where_all (holds (not on) (wrong RULE_TWICE_ON_A_PATH n.place) ∷ []) rule
 tried-is d path n rule on e h =
     ap (λ o. found o (wrong UNKNOWN_NAME n.place) >>= λ r. where_all (holds (not (is_on r path)) (wrong RULE_TWICE_ON_A_PATH n.place) ∷ []) r) e

@@ -1,5 +1,5 @@
 -- One more part, counted by capped numbers.
-use Rattle.std.proofs.Common.{◌≡◌, ℕ, ◌+◌, ◌-◌, ◌<◌, min, List, [], ◌∷◌, ◌++◌, length, map, take, get_or, slice_get, ap, ap₂, sym, ◌∙◌, refl, arith}
+use Rattle.std.proofs.Common.{◌≡◌, ℕ, suc, ◌+◌, ◌-◌, ◌<◌, min, List, [], ◌∷◌, ◌++◌, length, map, take, get_or, slice_get, ap, ap₂, sym, ◌∙◌, refl, arith}
 use Rattle.std.proofs.Math.Seq.{take-suc}
 use Rattle.std.proofs.lemmas.List.{get_or-map, length-map, map-append}
 use Rattle.std.proofs.lemmas.List.Sums.{sum_by-cons}
@@ -12,7 +12,9 @@ use Rattle.koika_check.specs.declared.checked.CheckedFunction.{CheckedFunction}
 use Rattle.koika_check.specs.declared.measure.Measure.{Measure}
 use Rattle.koika_check.proofs.Caps.{capped-both, capped-deeper, capped-heavier}
 use Rattle.koika_check.proofs.Runs.{arms-push, behind, behind-push, chain_size-push, one_deeper-push, run_size, run_size-push, side_by_side-push, taken, taken-length}
-use Rattle.koika_check.proofs.Gauging.{plus_one}
+
+plus_one : (i : ℕ) → i + 1 ≡ suc i
+plus_one i = omega arith
 
 -- what is found of one more item
 one_more : {X Y Z : Type 0} (f : X → Y) (g : List Y → Z) (xs : List X) (i : ℕ) (x : X) → i < length xs → x ≡ get_or xs i x →

@@ -3,7 +3,6 @@
 use Rattle.std.proofs.Common.{◌≡◌, ℕ, zero, suc, ◌+◌, ◌*◌, ◌≤◌, ◌<◌, List, [], ◌∷◌, length, get_or, take, sum_by, Some, slice_get, ap, sym, ◌∙◌, arith}
 use Rattle.std.proofs.lemmas.List.Sums.{sum_by-cons, sum_by_more_le}
 use Rattle.koika_types.proofs.Sizes.{sum_by-map}
-use Rattle.koika_check.specs.declared.checked.Checked.{Checked}
 use Rattle.koika_check.specs.declared.checked.CheckedFunction.{CheckedFunction}
 use Rattle.koika_check.specs.declared.typed.Operation.{Operation}
 use Rattle.koika_check.specs.declared.typed.BlockStep.{BlockStep, BlockStep-F, fold-BlockStep, fold-roll-BlockStep}
@@ -54,28 +53,23 @@ count-Give v = ap count_step (sym (step.rolls-Give v)) ∙ fold-roll-BlockStep �
 pub count-one : (es : List Typed) (k : ℕ) (e : Typed) → k < length es → e ≡ get_or es k e → count e ≤ sum_by count es
 count-one es k e below is = omega (arith, sum_by_more_le count es k e below, ap count is)
 
-pub count-first : (steps rest : List BlockStep) (first : BlockStep) → steps ≡ first ∷ rest → sum_by count_step steps ≡ count_step first + sum_by count_step rest
-count-first steps rest first e = ap (sum_by count_step) e ∙ sum_by-cons count_step first rest
+pub count-step : (steps : List BlockStep) (k : ℕ) (s : BlockStep) → k < length steps → s ≡ get_or steps k s → count_step s ≤ sum_by count_step steps
+count-step steps k s below is = omega (arith, sum_by_more_le count_step steps k s below, ap count_step is)
 
 -- ---- the bodies of functions
 
 -- what a call of the function adds
 abbrev body_cost : CheckedFunction → ℕ
-body_cost f = 4 * count f.body + length f.parameters + 2
+body_cost f = 4 * count f.body + 1
 
-costs-behind : (fs : List CheckedFunction) (n number : ℕ) (f : CheckedFunction) → number < n → slice_get fs number ≡ Some f → sum_by body_cost (take number fs) + body_cost f ≤ sum_by body_cost (take n fs)
-costs-behind [] n number f below at = absurd (cc)
-costs-behind (g ∷ fs) zero number f below at = absurd (omega arith)
-costs-behind (g ∷ fs) (suc n) zero f below at =
+-- what calls of these functions add
+abbrev pub calls : List CheckedFunction → ℕ
+calls = sum_by body_cost
+
+pub calls-behind : (fs : List CheckedFunction) (number : ℕ) (f : CheckedFunction) → slice_get fs number ≡ Some f → calls (take number fs) + 4 * count f.body + 1 ≤ calls fs
+calls-behind [] number f at = absurd (cc)
+calls-behind (g ∷ fs) zero f at =
     let same : g ≡ f = cc in
-    omega (arith, sum_by-cons body_cost g (take n fs), ap body_cost same)
-costs-behind (g ∷ fs) (suc n) (suc number) f below at =
-    omega (arith, sum_by-cons body_cost g (take n fs), sum_by-cons body_cost g (take number fs), costs-behind fs n number f (omega arith) at)
-
--- what calls of the first so many functions add
-abbrev pub calls : Checked → ℕ → ℕ
-calls d functions = sum_by body_cost (take functions d.functions)
-
-pub calls-behind : (d : Checked) (functions number : ℕ) (f : CheckedFunction) → number < functions → slice_get d.functions number ≡ Some f →
-    calls d number + (4 * count f.body + length f.parameters + 2) ≤ calls d functions
-calls-behind d functions number f below at = costs-behind d.functions functions number f below at
+    omega (arith, sum_by-cons body_cost g fs, ap body_cost same)
+calls-behind (g ∷ fs) (suc number) f at =
+    omega (arith, sum_by-cons body_cost g fs, sum_by-cons body_cost g (take number fs), calls-behind fs number f at)

@@ -13,7 +13,7 @@ use Rattle.koika_check.specs.declared.checked.CheckedRule.{CheckedRule}
 use Rattle.koika_check.specs.declared.checked.Struct.{Struct}
 use Rattle.koika_check.specs.declared.typed.ValueType.{ValueType}
 use Rattle.koika_check.proofs.TypedGrowth.{Extends, sum-stays, type-stays, typed-stays, types-stay, value-stays, width-stays}
-use Rattle.koika_check.proofs.TypedSoFar.{IsTypedSoFar}
+use Rattle.koika_check.proofs.TypedSoFar.{IsTypedSoFar, declares-so-far}
 
 -- what is found in a list with one more element
 pub found-in-push : {X : Type 0} (xs : List X) (y : X) (n : ℕ) (x : X) → slice_get (xs ++ y ∷ []) n ≡ Some x → (slice_get xs n ≡ Some x) ⊎ ((n ≡ length xs) × (y ≡ x))
@@ -51,7 +51,7 @@ module _ (d e : Checked) (g : Extends d e) (h : IsTypedSoFar d) where
   }
 
   pub register-stays : (r : Register) → IsRegister d r → IsRegister e r
-  register-stays r is = record { of = type-stays d e g r.of is.of; width = is.width ∙ sym (width-stays d e g r.of is.of); first = value-stays d e g h r.first r.of is.of is.first }
+  register-stays r is = record { of = type-stays d e g r.of is.of; width = is.width ∙ sym (width-stays d e g r.of is.of); first = value-stays d e g (declares-so-far d h) r.first r.of is.of is.first }
 
   pub input-stays : (i : Input) → IsInput d i → IsInput e i
   input-stays i is = record { of = type-stays d e g i.of is.of; width = is.width ∙ sym (width-stays d e g i.of is.of) }
@@ -64,8 +64,8 @@ module _ (d e : Checked) (g : Extends d e) (h : IsTypedSoFar d) where
   function-stays number f is = record {
     parameters = types-stay d e g f.parameters is.parameters;
     result = result_stays f.result is.result;
-    body = (typed-stays d e g h number number (omega arith) f.body (reverse f.parameters) f.result (all-reverse (IsType d) f.parameters is.parameters) is.body).1;
+    body = (typed-stays d e g (declares-so-far d h) number number (omega arith) f.body (reverse f.parameters) f.result (all-reverse (IsType d) f.parameters is.parameters) is.body).1;
   }
 
   pub rule-stays : (n m : ℕ) → n ≤ m → (r : CheckedRule) → HasType d n r.body [] None → HasType e m r.body [] None
-  rule-stays n m le r is = (typed-stays d e g h n m le r.body [] None (All-nil (IsType d)) is).1
+  rule-stays n m le r is = (typed-stays d e g (declares-so-far d h) n m le r.body [] None (All-nil (IsType d)) is).1

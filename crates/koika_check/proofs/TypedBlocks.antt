@@ -5,6 +5,7 @@ use Rattle.koika_check.specs.Constructs.{Joined, Typing, chained, join, typing}
 use Rattle.koika_check.specs.Expressions.{Joining, ExpressionTyping, BlockSoFar, StatementTyping, Stepping, block_from, chain_in, close, join_in, run}
 use Rattle.koika_check.specs.Outcomes.{Gives, one_by_one}
 use Rattle.koika_check.specs.Scopes.{Local, Scope}
+use Rattle.koika_check.specs.Types.{width_if}
 use Rattle.koika_check.specs.Typing.{Binds, HasType, IsType, Runs, StepsHaveType}
 use Rattle.koika_check.specs.inner.Typing.{StepHasType}
 use Rattle.koika_check.specs.Typing as has
@@ -27,14 +28,14 @@ Sound m = (scope : Scope) → IsGood scope → (x : Typing) → m scope ≡ Give
 -- ---- chains
 
 -- operators and operands behind the first ones
-join_all : (scope : Scope) → IsGood scope → (rest : List Joining) (before after : Joined) → AllByRecursion (λ (j : Joining). Sound j.operand) rest → IsJoined scope before → 1 ≤ length before.operators →
-    one_by_one (join_in scope) rest before ≡ Gives after → IsJoined scope after × (1 ≤ length after.operators)
-join_all scope good [] before after sound h some e = subst (λ (j : Joined). IsJoined scope j × (1 ≤ length j.operators)) (gives-same before after e) (h, some)
-join_all scope good (j ∷ rest) before after sound h some e =
+join_all : (scope : Scope) (first : Option ValueType) → IsGood scope → (rest : List Joining) (before after : Joined) → AllByRecursion (λ (j : Joining). Sound j.operand) rest → IsJoined scope first before →
+    1 ≤ length before.operators → one_by_one (join_in scope) rest before ≡ Gives after → IsJoined scope first after × (1 ≤ length after.operators)
+join_all scope first good [] before after sound h some e = subst (λ (j : Joined). IsJoined scope first j × (1 ≤ length j.operators)) (gives-same before after e) (h, some)
+join_all scope first good (j ∷ rest) before after sound h some e =
     let next = bind-gives (join_in scope j before) (one_by_one (join_in scope) rest) after e in
     let right = bind-gives (j.operand scope) (λ right. join j.operator right before) next.0 next.1 in
-    let it = join-next scope j.operator right.0 before next.0 h (sound.0 scope good right.0 right.1) right.2 in
-    join_all scope good rest next.0 after sound.1 it.0 it.1 next.2
+    let it = join-next scope first j.operator right.0 before next.0 h (sound.0 scope good right.0 right.1) right.2 in
+    join_all scope first good rest next.0 after sound.1 it.0 it.1 next.2
 
 -- a chain of at least one operator
 pub chain-typed : (scope : Scope) → IsGood scope → (rest : List Joining) (first x : Typing) → 0 < length rest → AllByRecursion (λ (j : Joining). Sound j.operand) rest → IsTyped scope first →
@@ -46,8 +47,8 @@ chain-typed scope good (j ∷ rest) first x some sound h e =
     let next = bind-gives (join_in scope j start) (one_by_one (join_in scope) rest) all.0 all.1 in
     let right = bind-gives (j.operand scope) (λ right. join j.operator right start) next.0 next.1 in
     let it = join-first scope j.operator first right.0 next.0 h (sound.0 scope good right.0 right.1) right.2 in
-    let whole = join_all scope good rest next.0 all.0 sound.1 it.0 it.1 next.2 in
-    subst (IsTyped scope) (gives-same (chained all.0) x all.2) (chained-typed scope all.0 whole.0 whole.1)
+    let whole = join_all scope first.part.of good rest next.0 all.0 sound.1 it.0 it.1 next.2 in
+    subst (IsTyped scope) (gives-same (chained (width_if scope.design first.part.of) all.0) x all.2) (chained-typed scope first.part.of all.0 whole.0 whole.1)
 
 -- ---- statements
 

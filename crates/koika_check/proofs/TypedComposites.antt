@@ -9,7 +9,7 @@ use Rattle.koika_syntax.specs.declared.tree.Name.{Name}
 use Rattle.koika_check.specs.Composites.{Given, array_of, fields_of, struct_of}
 use Rattle.koika_check.specs.Constructs.{ArmTyping, FieldTyping, Typing, applied, arguments_agree, array_in, call, conditional, given_of, types_of_parts, place_of_arms, struct_in, type_of_bodies, typed_of, typing}
 use Rattle.koika_check.specs.Outcomes.{Gives, CheckResult, holds, in_turn, wrong}
-use Rattle.koika_check.specs.Scopes.{Called, Scope, at, called, called_function, called_host, called_table, function_named, host_named, or_else, table_named}
+use Rattle.koika_check.specs.Scopes.{Called, Scope, at, called, called_function, called_host, called_table, or_else}
 use Rattle.koika_check.specs.Types.{TypedPart, agrees, array, bits, each}
 use Rattle.koika_check.specs.Typing.{Applies, AreArms, HasType, IsType}
 use Rattle.koika_check.specs.declared.checked.Checked.{Checked}
@@ -21,6 +21,8 @@ use Rattle.koika_check.specs.declared.typed.Operation.TheVariants as operation
 use Rattle.koika_check.specs.declared.typed.BlockStep.TheOpen as opened
 use Rattle.koika_check.specs.declared.typed.Typed.TheVariants as typed
 use Rattle.koika_check.specs.declared.typed.ValueType.{ValueType}
+use Rattle.koika_check.specs.Kinds.{number_named}
+use Rattle.koika_check.specs.declared.things.Kind.TheVariants as kind
 use Rattle.koika_check.proofs.Answering.{bind-gives, found-some}
 use Rattle.koika_check.proofs.Telling.{holds-true}
 use Rattle.koika_check.proofs.TypedConstructs.{IsTyped, applied-typed}
@@ -60,9 +62,9 @@ function_called d (Some number) (Some f) other c a tables e = subst (IsCalled d)
 -- what is called applies to its parameters
 pub called-applies : (d : Checked) (n : Name) (c : Called) → called d n ≡ Gives c → IsCalled d c
 called-applies d n c e =
-    let f = function_named d n.text in
-    let t = table_named d n.text in
-    let h = host_named d n.text in
+    let f = number_named kind.Function d n.text in
+    let t = number_named kind.Table d n.text in
+    let h = number_named kind.Host d n.text in
     let hosts = called_host h (at d.hosts h) in
     let tables = or_else (called_table t (at d.tables t)) hosts in
     function_called d f (at d.functions f) tables c refl (table_called d t (at d.tables t) hosts c refl (host_called d h (at d.hosts h) c refl))

@@ -14,12 +14,14 @@ use Rattle.koika_check.specs.Composites.{Given, array_of, fields_of, member, str
 use Rattle.koika_check.specs.Constants.{FieldMeaning, Known, KnownField, ConstantMeaning, array_known, constant_field_step, constant_of, constant_step, given, known_member, struct_known}
 use Rattle.koika_check.specs.inner.Constants.{constant_field_of}
 use Rattle.koika_check.specs.Outcomes.{Gives, ◌>>=◌, found, in_turn, wrong}
-use Rattle.koika_check.specs.Types.{array, bits, of_base, part, struct_named}
+use Rattle.koika_check.specs.Types.{array, bits, of_base, part}
 use Rattle.koika_check.specs.Typing.{IsOf, IsType, Pairwise}
 use Rattle.koika_check.specs.declared.checked.Checked.{Checked}
 use Rattle.koika_check.specs.declared.checked.CheckedField.{CheckedField}
 use Rattle.koika_check.specs.declared.typed.BaseType.TheVariants as base
 use Rattle.koika_check.specs.declared.typed.ValueType.{ValueType}
+use Rattle.koika_check.specs.Kinds.{number_named}
+use Rattle.koika_check.specs.declared.things.Kind.TheVariants as kind
 use Rattle.koika_check.proofs.Answering.{bind-gives}
 use Rattle.koika_syntax.proofs.TreeParts.{Such, EachOfConstant, IsConstantField, each_of_constant}
 use Rattle.koika_check.proofs.TypedComposites.{turn-all}
@@ -122,7 +124,7 @@ constant_sound (constant.Member of m) here is fine d good k e =
     subst (IsKnown d) (gives-same (known_member of.place it.0) k it.2)
     (t, refl, close-IsOf d v (Value-F.Member it.0.number it.0.bits) (value.rolls-Member it.0.number it.0.bits) t (refl, known.0), base-type d (base.Enum it.0.number) known.1)
 constant_sound (constant.Struct of fields close) here is fine d good k e =
-    let number = bind-gives (found (struct_named d of.text) (wrong UNKNOWN_NAME of.place)) (λ number. in_turn (λ (m : FieldMeaning). m d) (map constant_field_of fields) >>= struct_known d number of.place close) k e in
+    let number = bind-gives (found (number_named kind.Struct d of.text) (wrong UNKNOWN_NAME of.place)) (λ number. in_turn (λ (m : FieldMeaning). m d) (map constant_field_of fields) >>= struct_known d number of.place close) k e in
     let all = bind-gives (in_turn (λ (m : FieldMeaning). m d) (map constant_field_of fields)) (struct_known d number.0 of.place close) k number.2 in
     struct_sound d good number.0 of.place close all.0 k (fields_give fields d all.0 good is fine all.1) all.2
 constant_sound (constant.Array place elements) here is fine d good k e =

@@ -24,9 +24,9 @@ use Rattle.koika_check.specs.Composites.{member}
 use Rattle.koika_check.specs.Constructs.{Joined, SelectedPart, Typing, abort_at, applied, chained, comparison, extended, join, literal, member_in, named, packed, types_of_parts, place_of_prefixes, postfix, read_in, replaced, take_part, typed_of, typing, unary, unpacked, updated, written}
 use Rattle.koika_check.specs.Operators.{bits_in, calculated, compared, concatenated, equated, operated, width_or_none}
 use Rattle.koika_check.specs.Outcomes.{Gives, first, found, holds, one_by_one, wrong}
-use Rattle.koika_check.specs.Scopes.{Local, Named, Scope, at, bare, input_by, input_named, local_by, local_named, or_else, register, register_named, register_type, type_of_register}
+use Rattle.koika_check.specs.Scopes.{Local, Named, Scope, at, bare, input_by, local_by, local_named, or_else, register, register_type, type_of_register}
 use Rattle.koika_check.specs.Selections.{Selected, select}
-use Rattle.koika_check.specs.Types.{TypedPart, agrees, as_bits, bits, each, is_bits, is_value, of_base, part, width_of, wrong_type}
+use Rattle.koika_check.specs.Types.{TypedPart, agrees, as_bits, bits, each, is_bits, is_value, of_base, part, width_if, width_of, wrong_type}
 use Rattle.koika_check.specs.Typing.{Applies, Calculates, Chains, Compares, Equates, HasType, IsType, Joins, Operates, Pairwise, Takes, TakesAll}
 use Rattle.koika_check.specs.declared.checked.Checked.{Checked}
 use Rattle.koika_check.specs.declared.checked.Input.{Input}
@@ -38,6 +38,8 @@ use Rattle.koika_check.specs.declared.typed.Selection.{Selection}
 use Rattle.koika_check.specs.declared.typed.BlockStep.TheOpen as opened
 use Rattle.koika_check.specs.declared.typed.Typed.TheVariants as typed
 use Rattle.koika_check.specs.declared.typed.ValueType.{ValueType}
+use Rattle.koika_check.specs.Kinds.{number_named}
+use Rattle.koika_check.specs.declared.things.Kind.TheVariants as kind
 use Rattle.koika_check.proofs.Answering.{bind-gives, found-some}
 use Rattle.koika_check.proofs.CalledTypes.{at-index}
 use Rattle.koika_check.proofs.Positions.{number_of-within}
@@ -111,7 +113,7 @@ pub named-typed : (scope : Scope) (n : Name) (x : Typing) → named scope n ≡ 
 named-typed scope n x e =
     let one = bind-gives (bare scope n) _ x e in
     let l = local_named scope.locals n.text in
-    let i = input_named scope.design n.text in
+    let i = number_named kind.Input scope.design n.text in
     subst (IsTyped scope) (gives-same (typing (Some one.0.of) n.place one.0.typed) x one.2)
     (local_named_typed scope l (at scope.locals l) (input_by i (at scope.design.inputs i)) one.0 refl (input_named_typed scope i (at scope.design.inputs i) one.0 refl)
     (found-some (or_else (local_by l (at scope.locals l)) (input_by i (at scope.design.inputs i))) (wrong UNKNOWN_NAME n.place) one.0 one.1))
@@ -121,7 +123,7 @@ named-typed scope n x e =
 pub register-there : (d : Checked) (n : Name) (number : ℕ) → register d n ≡ Gives number → (r : Register) × (slice_get d.registers number ≡ Some r)
 register-there d n number e =
     let names = map (λ (r : Register). r.name) d.registers in
-    let within = (number_of-within names n.text number (found-some (register_named d n.text) (wrong UNKNOWN_NAME n.place) number e)).0 in
+    let within = (number_of-within names n.text number (found-some (number_named kind.Register d n.text) (wrong UNKNOWN_NAME n.place) number e)).0 in
     let it = at-index d.registers number (omega (arith, within, length-map d.registers (λ (r : Register). r.name))) in
     (it.0, it.1)
 
@@ -234,8 +236,9 @@ each-push P [] x h p = (p, tt)
 each-push P (y ∷ xs) x h p = (h.0, each-push P xs x h.1 p)
 
 -- a chain as far as it was looked at: its operands' types, and the type that all of them make
-pub record IsJoined (scope : Scope) (j : Joined) : Type 0 where
+pub record IsJoined (scope : Scope) (first : Option ValueType) (j : Joined) : Type 0 where
   pub t : ValueType
+  pub first_is : first ≡ Some t
   pub ts : List ValueType
   pub whole : ValueType
   pub typed : AllByRecursion (IsTyped scope) j.operands
@@ -245,14 +248,15 @@ pub record IsJoined (scope : Scope) (j : Joined) : Type 0 where
 
 -- the first operator of a chain, and one more
 pub join-first : (scope : Scope) (o : BinaryOperator) (first right : Typing) (j : Joined) → IsTyped scope first → IsTyped scope right →
-    join o right (record { left = first.part; operators = []; operands = first ∷ [] }) ≡ Gives j → IsJoined scope j × (1 ≤ length j.operators)
+    join o right (record { left = first.part; operators = []; operands = first ∷ [] }) ≡ Gives j → IsJoined scope first.part.of j × (1 ≤ length j.operators)
 join-first scope o first right j h k e =
     let of = bind-gives (operated o first.part right.part) _ j e in
     let it = operated-typed o first.part right.part of.0 of.1 in
     let made : Joined = record { left = part of.0 first.part.place; operators = o ∷ []; operands = first ∷ right ∷ [] } in
-    subst (λ (j : Joined). IsJoined scope j × (1 ≤ length j.operators)) (gives-same made j of.2) (
+    subst (λ (j : Joined). IsJoined scope first.part.of j × (1 ≤ length j.operators)) (gives-same made j of.2) (
       record {
         t = it.0;
+        first_is = it.3;
         ts = it.1 ∷ [];
         whole = it.2;
         typed = (h, (k, tt));
@@ -263,15 +267,17 @@ join-first scope o first right j h k e =
       omega arith,
     )
 
-pub join-next : (scope : Scope) (o : BinaryOperator) (right : Typing) (before j : Joined) → IsJoined scope before → IsTyped scope right → join o right before ≡ Gives j → IsJoined scope j × (1 ≤ length j.operators)
-join-next scope o right before j b k e =
+pub join-next : (scope : Scope) (first : Option ValueType) (o : BinaryOperator) (right : Typing) (before j : Joined) → IsJoined scope first before → IsTyped scope right → join o right before ≡ Gives j →
+    IsJoined scope first j × (1 ≤ length j.operators)
+join-next scope first o right before j b k e =
     let of = bind-gives (operated o before.left right.part) _ j e in
     let it = operated-typed o before.left right.part of.0 of.1 in
     let same : it.0 ≡ b.whole = same_Some it.0 b.whole (sym it.3 ∙ b.left) in
     let made : Joined = record { left = part of.0 before.left.place; operators = before.operators ++ o ∷ []; operands = before.operands ++ right ∷ [] } in
-    subst (λ (j : Joined). IsJoined scope j × (1 ≤ length j.operators)) (gives-same made j of.2) (
+    subst (λ (j : Joined). IsJoined scope first j × (1 ≤ length j.operators)) (gives-same made j of.2) (
       record {
         t = b.t;
+        first_is = b.first_is;
         ts = b.ts ++ it.1 ∷ [];
         whole = it.2;
         typed = each-push (IsTyped scope) before.operands right b.typed k;
@@ -283,9 +289,10 @@ join-next scope o right before j b k e =
     )
 
 -- the whole chain
-pub chained-typed : (scope : Scope) (j : Joined) → IsJoined scope j → 1 ≤ length j.operators → IsTyped scope (chained j)
-chained-typed scope j h some =
-    applied-typed scope j.left.of j.left.place (operation.Chain j.operators) j.operands (h.t ∷ h.ts) h.typed h.are (some, h.whole, h.chains, h.left)
+pub chained-typed : (scope : Scope) (first : Option ValueType) (j : Joined) → IsJoined scope first j → 1 ≤ length j.operators → IsTyped scope (chained (width_if scope.design first) j)
+chained-typed scope first j h some =
+    applied-typed scope j.left.of j.left.place (operation.Chain j.operators (width_if scope.design first)) j.operands (h.t ∷ h.ts) h.typed h.are
+    (some, h.whole, h.chains, h.left, ap (width_if scope.design) h.first_is)
 
 -- ---- suffixes
 

@@ -47,7 +47,7 @@ use Rattle.koika_check.specs.declared.typed.BaseType.{BaseType}
 use Rattle.koika_check.specs.declared.typed.BaseType.TheVariants as base
 use Rattle.koika_check.specs.declared.typed.ValueType.{ValueType}
 use Rattle.koika_check.proofs.Answering.{bind-gives, found-some}
-use Rattle.koika_check.proofs.Declared.{named-push}
+use Rattle.koika_check.proofs.Declared.{name-push, number-push}
 use Rattle.koika_check.proofs.Declaring.{find-all}
 use Rattle.koika_check.proofs.Positions.{same, same-is}
 use Rattle.koika_check.proofs.Telling.{holds-true}
@@ -111,7 +111,9 @@ distinct_push : (fields : List CheckedField) (one : CheckedField) → number_of 
 distinct_push fields one new h i f e = by_place (found-in-push fields one i f e)
   where
     pushed : (other : List ℕ) → field_named (fields ++ one ∷ []) other ≡ cond (bytes_eq other one.name) (Some (length fields)) (field_named fields other)
-    pushed other = named-push (λ (f : CheckedField). f.name) fields one one.name other refl new
+    pushed other =
+        ap (λ names. number_of names other) (name-push (λ (f : CheckedField). f.name) fields one one.name refl) ∙ number-push (names_of_fields fields) one.name other new
+        ∙ ap (λ n. cond (bytes_eq other one.name) (Some n) (field_named fields other)) (length-map fields (λ (f : CheckedField). f.name))
 
     none_some : (k : ℕ) → None ≡ Some k → ⊥
     none_some k e = cc

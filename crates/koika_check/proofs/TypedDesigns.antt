@@ -16,7 +16,6 @@ use Rattle.kw_bits.specs.declared.host.HostSpec.{HostSpec}
 use Rattle.typed_core.specs.declared.design.Node.{Node}
 use Rattle.koika_check.specs.Declarations.{assert_of, assert_with, declare, enum_with, function_with, host_with, input_with, nothing, register_with, rule_with, struct_with, table_with}
 use Rattle.koika_check.specs.Outcomes.{Gives, found, holds, one_by_one, wrong}
-use Rattle.koika_check.specs.Scopes.{rule_named}
 use Rattle.koika_check.specs.Types.{width_of}
 use Rattle.koika_check.specs.Typing.{HasType, IsFunction, IsInput, IsRegister, IsStruct, IsType}
 use Rattle.koika_check.specs.declared.checked.Checked.{Checked}
@@ -28,6 +27,8 @@ use Rattle.koika_check.specs.declared.checked.Register.{Register}
 use Rattle.koika_check.specs.declared.checked.CheckedRule.{CheckedRule}
 use Rattle.koika_check.specs.declared.checked.Struct.{Struct}
 use Rattle.koika_check.specs.declared.checked.Table.{Table}
+use Rattle.koika_check.specs.Kinds.{number_named}
+use Rattle.koika_check.specs.declared.things.Kind.TheVariants as kind
 use Rattle.koika_check.proofs.Answering.{bind-gives, found-some}
 use Rattle.koika_check.proofs.Positions.{number_of-within}
 use Rattle.koika_check.proofs.TypedAdditions.{each-at-push, function-stays, input-stays, register-stays, rule-stays, struct-stays}
@@ -281,10 +282,10 @@ struct_is d h x good =
 -- an `assert` marks a rule that there is
 asserted : (d : Checked) (n : Name) (rule : ℕ) → assert_with d n ≡ Gives rule → rule < length d.rules
 asserted d n rule e =
-    let number = bind-gives (found (rule_named d n.text) (wrong UNKNOWN_NAME n.place)) (assert_of d n) rule e in
+    let number = bind-gives (found (number_named kind.Rule d n.text) (wrong UNKNOWN_NAME n.place)) (assert_of d n) rule e in
     let all = where-all (holds (not (list_any (nat_eq number.0) d.asserts)) (wrong REPEATED_NAME n.place) ∷ []) number.0 rule number.2 in
     let names = map (λ (r : CheckedRule). r.name) d.rules in
-    let within = (number_of-within names n.text number.0 (found-some (rule_named d n.text) (wrong UNKNOWN_NAME n.place) number.0 number.1)).0 in
+    let within = (number_of-within names n.text number.0 (found-some (number_named kind.Rule d n.text) (wrong UNKNOWN_NAME n.place) number.0 number.1)).0 in
     subst (λ k. k < length d.rules) all.0 (omega (arith, within, length-map d.rules (λ (r : CheckedRule). r.name)))
 
 -- a design, and its host functions among those that are handed in

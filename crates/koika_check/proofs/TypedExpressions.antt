@@ -17,10 +17,12 @@ use Rattle.koika_check.specs.Expressions.{Armed, Fielded, Joining, ExpressionTyp
 use Rattle.koika_check.specs.inner.Expressions.{arm_in, expression_in, field_value_in, operand_in, statement_in}
 use Rattle.koika_check.specs.Outcomes.{Gives, CheckResult, ◌>>=◌, found, wrong}
 use Rattle.koika_check.specs.Scopes.{Local, Scope, called, register}
-use Rattle.koika_check.specs.Types.{struct_named, type_of, wrong_type}
+use Rattle.koika_check.specs.Types.{type_of, wrong_type}
 use Rattle.koika_check.specs.Typing.{Binds, HasType, Runs}
 use Rattle.koika_check.specs.declared.typed.BlockStep.TheOpen as opened
 use Rattle.koika_check.specs.declared.typed.BlockStep.TheVariants as step
+use Rattle.koika_check.specs.Kinds.{number_named}
+use Rattle.koika_check.specs.declared.things.Kind.TheVariants as kind
 use Rattle.koika_check.proofs.Answering.{bind-gives, found-some}
 use Rattle.koika_syntax.proofs.TreeParts.{EachOfArm, EachOfBlock, EachOfExpression, EachOfFieldValue, EachOfOperand, EachOfStatement, Such, each_of_arm, each_of_block, each_of_expression, each_of_field_value, each_of_operand, each_of_statement, IsArm, IsFieldValue, IsOperand, IsStatement}
 use Rattle.koika_check.proofs.TypedBlocks.{Sound, SoundStep, IsStepped, block-typed, chain-typed, scope_at}
@@ -28,7 +30,7 @@ use Rattle.koika_check.proofs.TypedComposites.{IsArmed, array-typed, call-typed,
 use Rattle.koika_check.proofs.TypedConstructs.{IsTyped, abort-typed, comparison-typed, extended-typed, literal-typed, member-typed, named-typed, packed-typed, postfix-typed, read-typed, unary-typed, unpacked-typed, updated-typed, written-typed}
 use Rattle.koika_check.proofs.TypedGrowth.{typed-valid}
 use Rattle.koika_check.proofs.TypedParts.{gives-same, type-valid}
-use Rattle.koika_check.proofs.TypedSoFar.{IsGood, types_in}
+use Rattle.koika_check.proofs.TypedSoFar.{IsGood, declares-so-far, types_in}
 use Rattle.koika_check.proofs.TypingLayers.{close-step}
 
 -- ---- what each part comes to is well typed
@@ -124,7 +126,7 @@ expression_sound (expression.Call n arguments) here is fine scope good x e =
     call-typed scope n c.0 all.0 x c.1 (gives_all IsTyped (map expression_in arguments) scope all.0 good (sounds IsExpression Sound expression_in arguments is fine) all.1) all.2
 expression_sound (expression.Member of member) here is fine scope good x e = member-typed scope good of member x e
 expression_sound (expression.Struct of fields close) here is fine scope good x e =
-    let number = bind-gives (found (struct_named scope.design of.text) (wrong UNKNOWN_NAME of.place)) (λ number. all_in scope (map field_value_in fields) >>= struct_in scope.design number of.place close) x e in
+    let number = bind-gives (found (number_named kind.Struct scope.design of.text) (wrong UNKNOWN_NAME of.place)) (λ number. all_in scope (map field_value_in fields) >>= struct_in scope.design number of.place close) x e in
     let all = bind-gives (all_in scope (map field_value_in fields)) (struct_in scope.design number.0 of.place close) x number.2 in
     struct-typed scope good number.0 of.place close all.0 x
     (gives_all (λ s (f : FieldTyping). IsTyped s f.typing) (map field_value_in fields) scope all.0 good (sounds IsFieldValue SoundField field_value_in fields is fine) all.1) all.2
@@ -177,7 +179,7 @@ statement_sound (expression.Let n value) is fine d locals good one e =
     (inl (
       l,
       close-step d (length d.functions) (step.Let inner.0.typed) (opened.Let inner.0.typed) (step.rolls-Let inner.0.typed) (types_in scope) (Binds of.0) has,
-      typed-valid d good.design (length d.functions) inner.0.typed (types_in scope) (Some of.0) good.locals has,
+      typed-valid d (declares-so-far d good.design) (length d.functions) inner.0.typed (types_in scope) (Some of.0) good.locals has,
       refl,
     ))
 statement_sound (expression.Do value) is fine d locals good one e =

@@ -38,7 +38,7 @@ use Rattle.koika_check.specs.declared.typed.Typed.{Typed, Typed-F, ind-Typed, ma
 use Rattle.koika_check.specs.declared.typed.ValueType.{ValueType}
 use Rattle.koika_check.proofs.CalledTypes.{answer-width}
 use Rattle.koika_check.proofs.Positions.{slice_get-push}
-use Rattle.koika_check.proofs.TypedSoFar.{IsTypedSoFar, all-at, bits-type, bits-width, field-there, field-type, field-types, item-type, lookup, looked-up, some-base, struct-there}
+use Rattle.koika_check.proofs.TypedSoFar.{DeclaresTypes, all-at, bits-type, bits-width, field-there, field-type, field-types, item-type, lookup, looked-up, some-base, struct-there}
 use Rattle.koika_check.proofs.TypingLayers.{close-HasType, close-IsOf, close-step, open-HasType, open-IsOf, open-step}
 
 -- ---- growth
@@ -112,16 +112,16 @@ module _ (d e : Checked) (g : Extends d e) where
 
 -- ---- values
 
-pub each-replicate : {X : Type 0} (P : X → Type 0) (n : ℕ) (x : X) → P x → AllByRecursion P (replicate n x)
+each-replicate : {X : Type 0} (P : X → Type 0) (n : ℕ) (x : X) → P x → AllByRecursion P (replicate n x)
 each-replicate P zero x p = tt
 each-replicate P (suc n) x p = (p, each-replicate P n x p)
 
 -- the types of fields
-pub each-field : (d : Checked) (fields : List CheckedField) → All (λ (f : CheckedField). IsType d f.of) fields → AllByRecursion (IsType d) (map (λ (f : CheckedField). f.of) fields)
+each-field : (d : Checked) (fields : List CheckedField) → All (λ (f : CheckedField). IsType d f.of) fields → AllByRecursion (IsType d) (map (λ (f : CheckedField). f.of) fields)
 each-field d [] h = tt
 each-field d (f ∷ fields) h = let P : CheckedField → Type 0 = λ f. IsType d f.of in (All-head P f fields h, each-field d fields (All-tail P f fields h))
 
-module _ (d e : Checked) (g : Extends d e) (h : IsTypedSoFar d) where
+module _ (d e : Checked) (g : Extends d e) (h : DeclaresTypes d) where
   abbrev ValueStays : Value → Type 0
   ValueStays v = (t : ValueType) → IsType d t → IsOf d v t → IsOf e v t
 
@@ -167,7 +167,7 @@ module _ (d e : Checked) (g : Extends d e) (h : IsTypedSoFar d) where
 -- ---- operations
 
 -- what operators make of values has 1 to 128 bits
-pub operates-valid : (d : Checked) (o : BinaryOperator) (left right of : ValueType) → IsType d left → IsType d right → Operates o left right of → IsType d of
+operates-valid : (d : Checked) (o : BinaryOperator) (left right of : ValueType) → IsType d left → IsType d right → Operates o left right of → IsType d of
 operates-valid d o left right of l r h = by_operator o h
   where
     calculated : (width : ℕ) × ((left ≡ bits width) × (right ≡ bits width)) × (of ≡ bits width) → IsType d of
@@ -196,13 +196,13 @@ operates-valid d o left right of l r h = by_operator o h
     by_operator binary.Subtract h = calculated h
     by_operator binary.Multiply h = calculated h
 
-pub chains-valid : (d : Checked) (operators : List BinaryOperator) (t : ValueType) (ts : List ValueType) (of : ValueType) → IsType d t → AllByRecursion (IsType d) ts → Chains operators t ts of → IsType d of
+chains-valid : (d : Checked) (operators : List BinaryOperator) (t : ValueType) (ts : List ValueType) (of : ValueType) → IsType d t → AllByRecursion (IsType d) ts → Chains operators t ts of → IsType d of
 chains-valid d [] t [] of l r h = subst (IsType d) (sym h) l
 chains-valid d [] t (u ∷ ts) of l r h = absurd h
 chains-valid d (o ∷ operators) t [] of l r h = absurd h
 chains-valid d (o ∷ operators) t (u ∷ ts) of l r h = chains-valid d operators h.0 ts of (operates-valid d o t u h.0 l r.0 h.1) r.1 h.2
 
-module _ (d e : Checked) (g : Extends d e) (h : IsTypedSoFar d) where
+module _ (d e : Checked) (g : Extends d e) (h : DeclaresTypes d) where
   -- a part of a value is a value, and is taken in the same way
   pub take-stays : (s : Selection) (whole of : ValueType) → IsType d whole → Takes d s whole of → IsType d of × Takes e s whole of
   take-stays (selection.Field number lowest width) whole of valid t =
@@ -247,8 +247,9 @@ module _ (d e : Checked) (g : Extends d e) (h : IsTypedSoFar d) where
   applies-stays n m le (operation.Unary operators) [] of valid a = absurd a
   applies-stays n m le (operation.Unary operators) (t ∷ []) of valid a = (given of t a.2 valid.0, a)
   applies-stays n m le (operation.Unary operators) (t ∷ u ∷ ts) of valid a = absurd a
-  applies-stays n m le (operation.Chain operators) [] of valid a = absurd a
-  applies-stays n m le (operation.Chain operators) (t ∷ rest) of valid a = (given of a.1 a.3 (chains-valid d operators t rest a.1 valid.0 valid.1 a.2), a)
+  applies-stays n m le (operation.Chain operators width) [] of valid a = absurd a
+  applies-stays n m le (operation.Chain operators width) (t ∷ rest) of valid a =
+      (given of a.1 a.3 (chains-valid d operators t rest a.1 valid.0 valid.1 a.2), (a.0, a.1, a.2, a.3, a.4 ∙ sym (width-stays d e g t valid.0)))
   applies-stays n m le (operation.Select selections) [] of valid a = absurd a
   applies-stays n m le (operation.Select selections) (t ∷ []) of valid a =
       let taken = takes-stay selections t a.0 valid.0 a.1 in (given of a.0 a.2 taken.0, (a.0, taken.1, a.2))
@@ -295,7 +296,7 @@ module _ (d e : Checked) (g : Extends d e) (h : IsTypedSoFar d) where
 
 -- ---- expressions
 
-module _ (d e : Checked) (g : Extends d e) (h : IsTypedSoFar d) (n m : ℕ) (le : n ≤ m) where
+module _ (d e : Checked) (g : Extends d e) (h : DeclaresTypes d) (n m : ℕ) (le : n ≤ m) where
   abbrev Valid : Option ValueType → Type 0
   Valid of = IfSome of (IsType d)
 
@@ -395,5 +396,5 @@ module _ (d e : Checked) (g : Extends d e) (h : IsTypedSoFar d) (n m : ℕ) (le 
   typed-stays = ind-Typed StepStays TypedStays step_layer typed_layer
 
 -- an expression that is well typed has a type of values, if it isn't unit
-pub typed-valid : (d : Checked) → IsTypedSoFar d → (n : ℕ) (x : Typed) (locals : List ValueType) (of : Option ValueType) → All (IsType d) locals → HasType d n x locals of → IfSome of (IsType d)
+pub typed-valid : (d : Checked) → DeclaresTypes d → (n : ℕ) (x : Typed) (locals : List ValueType) (of : Option ValueType) → All (IsType d) locals → HasType d n x locals of → IfSome of (IsType d)
 typed-valid d h n x locals of types has = (typed-stays d d (extends-same d) h n n (omega arith) x locals of types has).0

@@ -21,7 +21,7 @@ use Rattle.typed_core.specs.Valid.{IsWidth}
 use Rattle.koika_check.specs.Composites.{Given, MemberOf, agrees_if, array_by, array_of, bits_by_place, field_named, fields_by, fields_of, fits_field, member, member_named, members_by, members_of, names_are, struct_of, type_at, type_of_first}
 use Rattle.koika_check.specs.Outcomes.{Condition, Gives, CheckResult, earlier, found, holds, smallest, unless, where_all, wrong}
 use Rattle.koika_check.specs.Selections.{Items, Selected, as_array, bits_at, field_at, field_if, in_range, index_of, item_at, items_by, replace_field, replace_item, select, select_field, select_slice}
-use Rattle.koika_check.specs.Types.{TypedPart, agrees, array, array_type, as_bits, as_struct, base_width, bits, bits_by, differs_by, each, enum_named, is_bits, is_value, is_width, named_type, of_base, part, same, same_base, same_type, struct_by, type_named, type_of, type_step, width_of, wrong_type}
+use Rattle.koika_check.specs.Types.{TypedPart, agrees, array, array_type, as_bits, as_struct, base_width, bits, bits_by, differs_by, each, is_bits, is_value, is_width, named_type, of_base, part, same, same_base, same_type, struct_by, type_named, type_of, type_step, width_of, wrong_type}
 use Rattle.koika_check.specs.Typing.{IsType, Pairwise, Replaces, Takes, TakesField}
 use Rattle.koika_check.specs.declared.checked.Checked.{Checked}
 use Rattle.koika_check.specs.declared.checked.CheckedField.{CheckedField}
@@ -29,6 +29,8 @@ use Rattle.koika_check.specs.declared.checked.Struct.{Struct}
 use Rattle.koika_check.specs.declared.typed.BaseType.{BaseType}
 use Rattle.koika_check.specs.declared.typed.BaseType.TheVariants as base
 use Rattle.koika_check.specs.declared.typed.ValueType.{ValueType}
+use Rattle.koika_check.specs.Kinds.{number_named}
+use Rattle.koika_check.specs.declared.things.Kind.TheVariants as kind
 use Rattle.koika_check.proofs.Answering.{bind-gives, found-some}
 use Rattle.koika_check.proofs.Positions.{same-is}
 use Rattle.koika_check.proofs.Telling.{holds-true, smaller-both}
@@ -191,7 +193,7 @@ bits-placed members (Some k) b e = by_member (slice_get members k) refl
 -- a member's bits have its enum's width
 pub member-known : (d : Checked) → IsTypedSoFar d → (of m : Name) (x : MemberOf) → member d of m ≡ Gives x → HasWidth x.bits (base_width d (base.Enum x.number)) × IsWidth (base_width d (base.Enum x.number))
 member-known d h of m x e =
-    let number = bind-gives (found (enum_named d of.text) _) _ x e in
+    let number = bind-gives (found (number_named kind.Enum d of.text) _) _ x e in
     let bits = bind-gives (found (member_named (members_of d number.0) m.text) (wrong WRONG_FIELD m.place)) _ x number.2 in
     let it : MemberOf = record { number = number.0; bits = bits.0 } in
     subst (λ (y : MemberOf). HasWidth y.bits (base_width d (base.Enum y.number)) × IsWidth (base_width d (base.Enum y.number))) (gives-same it x bits.2)

@@ -21,9 +21,10 @@ use Rattle.koika_check.specs.inner.Checks.{choice_places}
 use Rattle.koika_check.specs.Outcomes.{Gives, found, holds, where_all, wrong}
 use Rattle.koika_check.specs.Schedule.{at_the_end, first_of, in_a_row, in_front, is_on, longer, path_behind, scheduler_nodes, tried}
 use Rattle.koika_check.specs.inner.Schedule.{choice_nodes}
-use Rattle.koika_check.specs.Scopes.{rule_named}
 use Rattle.koika_check.specs.declared.checked.Checked.{Checked}
 use Rattle.koika_check.specs.declared.checked.CheckedRule.{CheckedRule}
+use Rattle.koika_check.specs.Kinds.{number_named}
+use Rattle.koika_check.specs.declared.things.Kind.TheVariants as kind
 use Rattle.koika_check.proofs.Answering.{bind-gives, found-some}
 use Rattle.koika_check.proofs.Positions.{number_of-within}
 use Rattle.koika_check.proofs.Schedules.{behind_names, behind_rule, behind_taken, end_of, node_of, nodes-choice, nodes-scheduler}
@@ -198,9 +199,9 @@ front_fine rules path k rule behind lt off h = record { each = each; ways = ways
 -- a rule that may be tried behind a path
 tried_is : (d : Checked) (path : List ℕ) (n : Name) (rule : ℕ) → tried d path n ≡ Gives rule → (rule < length d.rules) × (is_on rule path ≡ false)
 tried_is d path n rule e =
-    let number = bind-gives (found (rule_named d n.text) (wrong UNKNOWN_NAME n.place)) (λ r. where_all (holds (not (is_on r path)) (wrong RULE_TWICE_ON_A_PATH n.place) ∷ []) r) rule e in
+    let number = bind-gives (found (number_named kind.Rule d n.text) (wrong UNKNOWN_NAME n.place)) (λ r. where_all (holds (not (is_on r path)) (wrong RULE_TWICE_ON_A_PATH n.place) ∷ []) r) rule e in
     let all = where-all (holds (not (is_on number.0 path)) (wrong RULE_TWICE_ON_A_PATH n.place) ∷ []) number.0 rule number.2 in
-    let within = (number_of-within (map (λ (r : CheckedRule). r.name) d.rules) n.text number.0 (found-some (rule_named d n.text) (wrong UNKNOWN_NAME n.place) number.0 number.1)).0 in
+    let within = (number_of-within (map (λ (r : CheckedRule). r.name) d.rules) n.text number.0 (found-some (number_named kind.Rule d n.text) (wrong UNKNOWN_NAME n.place) number.0 number.1)).0 in
     subst (λ r. (r < length d.rules) × (is_on r path ≡ false)) all.0
     (omega (arith, within, length-map d.rules (λ (r : CheckedRule). r.name)), not-true (is_on number.0 path) (holds-true (not (is_on number.0 path)) (wrong RULE_TWICE_ON_A_PATH n.place) all.1.0))
 

@@ -10,7 +10,7 @@ use Rattle.typed_core.specs.Valid.{IsHost, IsTable, IsWidth}
 use Rattle.koika_check.specs.Composites.{field_named, fields_by, fields_of}
 use Rattle.koika_check.specs.Scopes.{Local, Scope}
 use Rattle.koika_check.specs.Types.{all_lengths, array, base_width, bits, of_base, width_of}
-use Rattle.koika_check.specs.Typing.{HasType, IsAmong, IsFunction, IsInput, IsRegister, IsStruct, IsType}
+use Rattle.koika_check.specs.Typing.{HasType, IsAmong, IsFunction, IsInput, IsRegister, IsStruct, IsType, IsTypedDesign}
 use Rattle.koika_check.specs.declared.checked.Checked.{Checked}
 use Rattle.koika_check.specs.declared.checked.CheckedField.{CheckedField}
 use Rattle.koika_check.specs.declared.checked.CheckedFunction.{CheckedFunction}
@@ -43,6 +43,21 @@ pub record IsTypedSoFar (d : Checked) : Type 0 where
   pub functions : (number : ℕ) (f : CheckedFunction) → slice_get d.functions number ≡ Some f → IsFunction d number f
   pub rules : All (λ (r : CheckedRule). HasType d (length d.functions) r.body [] None) d.rules
   pub asserts : All (λ rule. rule < length d.rules) d.asserts
+
+-- the parts of a design that types speak of are well typed
+pub record DeclaresTypes (d : Checked) : Type 0 where
+  pub structs : (number : ℕ) (s : Struct) → slice_get d.structs number ≡ Some s → IsStruct d number s
+  pub registers : All (IsRegister d) d.registers
+  pub inputs : All (IsInput d) d.inputs
+  pub tables : All (λ (t : Table). IsTable t.spec × IsWidth t.spec.out_width) d.tables
+  pub hosts : All (λ (h : Host). IsHost h.spec) d.hosts
+  pub functions : (number : ℕ) (f : CheckedFunction) → slice_get d.functions number ≡ Some f → IsFunction d number f
+
+pub declares-so-far : (d : Checked) → IsTypedSoFar d → DeclaresTypes d
+declares-so-far d h = record { structs = λ number s e. (h.structs number s e).0; registers = h.registers; inputs = h.inputs; tables = h.tables; hosts = h.hosts; functions = h.functions }
+
+pub declares-whole : (d : Checked) → IsTypedDesign d → DeclaresTypes d
+declares-whole d h = record { structs = h.structs; registers = h.registers; inputs = h.inputs; tables = h.tables; hosts = h.hosts; functions = h.functions }
 
 -- the types of the names that are bound, and a scope in which they are types of values
 abbrev pub types_in : Scope → List ValueType
@@ -114,10 +129,10 @@ field-there d number i f e = by_struct (slice_get d.structs number) refl e
     by_struct (Some s) o e = (s, o, e)
 
 -- the fields of structs are values
-pub field-type : (d : Checked) → IsTypedSoFar d → (number i : ℕ) (f : CheckedField) → slice_get (fields_of d number) i ≡ Some f → IsType d f.of
+pub field-type : (d : Checked) → DeclaresTypes d → (number i : ℕ) (f : CheckedField) → slice_get (fields_of d number) i ≡ Some f → IsType d f.of
 field-type d h number i f e =
     let s = field-there d number i f e in
-    (all-at (λ (g : CheckedField). IsType d g.of × IsAmong number g.of.base) s.0.fields i f (h.structs number s.0 s.1).0.fields s.2).0
+    (all-at (λ (g : CheckedField). IsType d g.of × IsAmong number g.of.base) s.0.fields i f (h.structs number s.0 s.1).fields s.2).0
 
-pub field-types : (d : Checked) → IsTypedSoFar d → (number : ℕ) (s : Struct) → slice_get d.structs number ≡ Some s → All (λ (f : CheckedField). IsType d f.of) s.fields
-field-types d h number s e k f lt = ((h.structs number s e).0.fields k f lt).0
+pub field-types : (d : Checked) → DeclaresTypes d → (number : ℕ) (s : Struct) → slice_get d.structs number ≡ Some s → All (λ (f : CheckedField). IsType d f.of) s.fields
+field-types d h number s e k f lt = ((h.structs number s e).fields k f lt).0

@@ -8,12 +8,14 @@ use Rattle.koika_syntax.specs.declared.tree.Name.{Name}
 use Rattle.koika_types.specs.declared.declarations.EnumDecl.{EnumDecl}
 use Rattle.koika_types.specs.declared.declarations.Member.{Member}
 use Rattle.koika_check.specs.Outcomes.{CheckResult, ◌>>=◌, Gives, Condition, holds, first, where_all, found, wrong}
-use Rattle.koika_check.specs.Types.{TypedPart, agrees, array, base_width, each, enum_named, is_value, is_width, of_base, part, width_of}
+use Rattle.koika_check.specs.Types.{TypedPart, agrees, array, base_width, each, is_value, is_width, of_base, part, width_of}
 use Rattle.koika_check.specs.declared.checked.Checked.{Checked}
 use Rattle.koika_check.specs.declared.checked.CheckedField.{CheckedField}
 use Rattle.koika_check.specs.declared.checked.Struct.{Struct}
 use Rattle.koika_check.specs.declared.typed.BaseType.TheVariants as base
 use Rattle.koika_check.specs.declared.typed.ValueType.{ValueType}
+use Rattle.koika_check.specs.Kinds.{number_named}
+use Rattle.koika_check.specs.declared.things.Kind.TheVariants as kind
 
 -- ---- members
 
@@ -46,7 +48,7 @@ pub record MemberOf : Type 0 where
 
 -- `E::M`: an enum (20) with that member (24)
 abbrev pub member : Checked → (of member : Name) → CheckResult MemberOf
-member d of m = found (enum_named d of.text) (wrong UNKNOWN_NAME of.place) >>= λ number.
+member d of m = found (number_named kind.Enum d of.text) (wrong UNKNOWN_NAME of.place) >>= λ number.
     found (member_named (members_of d number) m.text) (wrong WRONG_FIELD m.place) >>= λ bits.
     Gives (record { number = number; bits = bits })
 

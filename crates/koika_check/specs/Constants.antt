@@ -8,10 +8,12 @@ use Rattle.koika_syntax.specs.declared.tree.ConstantField.{ConstantField-F}
 use Rattle.koika_types.specs.declared.value.Value.{Value}
 use Rattle.koika_types.specs.declared.value.Value.TheVariants as value
 use Rattle.koika_check.specs.Outcomes.{CheckResult, ◌>>=◌, Gives, in_turn, found, wrong}
-use Rattle.koika_check.specs.Types.{TypedPart, bits, of_base, part, struct_named}
+use Rattle.koika_check.specs.Types.{TypedPart, bits, of_base, part}
 use Rattle.koika_check.specs.Composites.{Given, MemberOf, array_of, member, struct_of}
 use Rattle.koika_check.specs.declared.checked.Checked.{Checked}
 use Rattle.koika_check.specs.declared.typed.BaseType.TheVariants as base
+use Rattle.koika_check.specs.Kinds.{number_named}
+use Rattle.koika_check.specs.declared.things.Kind.TheVariants as kind
 
 -- a constant that is well typed
 pub record Known : Type 0 where
@@ -53,7 +55,7 @@ array_known d place known = array_of d place (map (λ (k : Known). k.part) known
 abbrev pub constant_step : Constant-F ConstantMeaning FieldMeaning → ConstantMeaning
 constant_step (constant.Literal l) d = Gives (record { part = part (Some (bits l.bits.width)) l.place; value = value.Number l.bits })
 constant_step (constant.Member of m) d = member d of m >>= λ found. Gives (known_member of.place found)
-constant_step (constant.Struct of fields close) d = found (struct_named d of.text) (wrong UNKNOWN_NAME of.place) >>= λ number.
+constant_step (constant.Struct of fields close) d = found (number_named kind.Struct d of.text) (wrong UNKNOWN_NAME of.place) >>= λ number.
     in_turn (λ (field : FieldMeaning). field d) fields >>= struct_known d number of.place close
 constant_step (constant.Array place elements) d = in_turn (λ (element : ConstantMeaning). element d) elements >>= array_known d place
 

@@ -110,9 +110,9 @@ abbrev pub join : BinaryOperator → Typing → Joined → CheckResult Joined
 join operator right before = operated operator before.left right.part >>= λ of.
     Gives (record { left = part of before.left.place; operators = before.operators ++ operator ∷ []; operands = before.operands ++ right ∷ [] })
 
--- what a chain of operators of one level evaluates to
-abbrev pub chained : Joined → Typing
-chained all = applied all.left.of all.left.place (operation.Chain all.operators) all.operands
+-- what a chain of operators of one level evaluates to, whose first operand has this width
+abbrev pub chained : (width : ℕ) → Joined → Typing
+chained width all = applied all.left.of all.left.place (operation.Chain all.operators width) all.operands
 
 -- a part of a value, and what was taken to reach it
 pub record SelectedPart : Type 0 where

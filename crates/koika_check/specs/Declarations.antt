@@ -23,9 +23,9 @@ use Rattle.koika_types.specs.declared.declarations.Member.{Member}
 use Rattle.kw_bits.specs.declared.host.HostSpec.{HostSpec}
 use Rattle.typed_core.specs.declared.limits.TheConstants.{MAX_TABLE_IN_WIDTH}
 use Rattle.koika_check.specs.Outcomes.{CheckResult, ◌>>=◌, Gives, Condition, holds, one_by_one, where_all, found, wrong}
-use Rattle.koika_check.specs.Types.{agrees, each, enum_named, is_width, struct_named, type_of, width_of}
+use Rattle.koika_check.specs.Types.{agrees, each, is_width, type_of, width_of}
 use Rattle.koika_check.specs.Constants.{Known, constant_of}
-use Rattle.koika_check.specs.Scopes.{Local, function_named, host_named, input_named, register_named, rule_named, table_named}
+use Rattle.koika_check.specs.Scopes.{Local}
 use Rattle.koika_check.specs.Constructs.{Typing}
 use Rattle.koika_check.specs.Expressions.{block_in}
 use Rattle.koika_check.specs.declared.checked.Checked.{Checked}
@@ -38,14 +38,16 @@ use Rattle.koika_check.specs.declared.checked.CheckedRule.{CheckedRule}
 use Rattle.koika_check.specs.declared.checked.Struct.{Struct}
 use Rattle.koika_check.specs.declared.checked.Table.{Table}
 use Rattle.koika_check.specs.declared.typed.ValueType.{ValueType}
+use Rattle.koika_check.specs.Kinds.{number_named}
+use Rattle.koika_check.specs.declared.things.Kind.TheVariants as kind
 
 -- ---- names
 
 -- whether a name is declared, as whatever
 abbrev pub is_declared : Checked → List ℕ → Bool
 is_declared d name =
-    is_some (enum_named d name) || is_some (struct_named d name) || is_some (register_named d name) || is_some (input_named d name) ||
-    is_some (table_named d name) || is_some (host_named d name) || is_some (function_named d name) || is_some (rule_named d name)
+    is_some (number_named kind.Enum d name) || is_some (number_named kind.Struct d name) || is_some (number_named kind.Register d name) || is_some (number_named kind.Input d name) ||
+    is_some (number_named kind.Table d name) || is_some (number_named kind.Host d name) || is_some (number_named kind.Function d name) || is_some (number_named kind.Rule d name)
 
 -- the second declaration of a name is 21
 abbrev pub new_name : Checked → Name → CheckResult (List ℕ)
@@ -251,7 +253,7 @@ assert_of d n rule = where_all (holds (not (list_any (nat_eq rule) d.asserts)) (
 
 -- the rule that is marked, which has to be there
 abbrev pub assert_with : Checked → Name → CheckResult ℕ
-assert_with d n = found (rule_named d n.text) (wrong UNKNOWN_NAME n.place) >>= assert_of d n
+assert_with d n = found (number_named kind.Rule d n.text) (wrong UNKNOWN_NAME n.place) >>= assert_of d n
 
 -- ---- declarations
 

@@ -12,12 +12,14 @@ use Rattle.koika_syntax.specs.declared.tree.FieldValue.{FieldValue-F}
 use Rattle.koika_syntax.specs.declared.tree.Operand.{Operand-F}
 use Rattle.koika_syntax.specs.declared.tree.Statement.{Statement-F}
 use Rattle.koika_check.specs.Outcomes.{CheckResult, ◌>>=◌, Gives, in_turn, one_by_one, found, wrong}
-use Rattle.koika_check.specs.Types.{struct_named, type_of, wrong_type}
+use Rattle.koika_check.specs.Types.{type_of, width_if, wrong_type}
 use Rattle.koika_check.specs.Constructs.{ArmTyping, FieldTyping, Joined, Typing, abort_at, array_in, call, chained, comparison, conditional, extended, join, literal, member_in, named, packed, postfix, read_in, struct_in, typing, unary, unpacked, updated, written}
 use Rattle.koika_check.specs.Scopes.{Scope, bound, called, register}
 use Rattle.koika_check.specs.declared.typed.BlockStep.{BlockStep}
 use Rattle.koika_check.specs.declared.typed.BlockStep.TheVariants as step
 use Rattle.koika_check.specs.declared.typed.Typed.TheVariants as typed
+use Rattle.koika_check.specs.Kinds.{number_named}
+use Rattle.koika_check.specs.declared.things.Kind.TheVariants as kind
 
 -- ---- what the parts of an expression evaluate to
 
@@ -57,7 +59,7 @@ join_in scope next before = next.operand scope >>= λ right. join next.operator 
 
 -- what a chain of operands evaluates to in a scope
 abbrev pub chain_in : Scope → List Joining → Typing → CheckResult Typing
-chain_in scope rest first = one_by_one (join_in scope) rest (record { left = first.part; operators = []; operands = first ∷ [] }) >>= λ all. Gives (chained all)
+chain_in scope rest first = one_by_one (join_in scope) rest (record { left = first.part; operators = []; operands = first ∷ [] }) >>= λ all. Gives (chained (width_if scope.design first.part.of) all)
 
 -- ---- blocks and arms
 
@@ -99,7 +101,7 @@ expression_step (expression.Parentheses place inside) scope = inside scope >>= �
 expression_step (expression.Block block) scope = block scope
 expression_step (expression.If arms otherwise) scope = all_in scope arms >>= λ typed_arms. otherwise_in scope otherwise >>= conditional typed_arms
 expression_step (expression.Call n arguments) scope = called scope.design n >>= λ c. all_in scope arguments >>= call n c
-expression_step (expression.Struct of fields close) scope = found (struct_named scope.design of.text) (wrong UNKNOWN_NAME of.place) >>= λ number.
+expression_step (expression.Struct of fields close) scope = found (number_named kind.Struct scope.design of.text) (wrong UNKNOWN_NAME of.place) >>= λ number.
     all_in scope fields >>= struct_in scope.design number of.place close
 expression_step (expression.Array place elements) scope = all_in scope elements >>= array_in scope.design place
 expression_step (expression.Read place port r) scope = read_in scope.design place port r

@@ -7,6 +7,7 @@ pub mod Constructs
 pub mod Counts
 pub mod Declarations
 pub mod Expressions
+pub mod Kinds
 pub mod Meaning
 pub mod Operators
 pub mod Outcomes

@@ -206,8 +206,8 @@ read_as d (Some register) bits = gives (unpacked d register.of bits)
 -- what an operation on values evaluates to
 abbrev pub apply : {S : Type 0} → RuleSetting S → Operation → List Value → Evaluation (Option Value) S
 apply s (operation.Unary operators) values = gives (value.Number (prefixed operators (bits_of_first values)))
-apply s (operation.Chain operators) [] = comes_to None
-apply s (operation.Chain operators) (first ∷ rest) = gives (value.Number (chained operators (packed first) rest))
+apply s (operation.Chain operators width) [] = comes_to None
+apply s (operation.Chain operators width) (first ∷ rest) = gives (value.Number (chained operators (packed first) rest))
 apply s (operation.Select selections) [] = comes_to None
 apply s (operation.Select selections) (v ∷ rest) = gives (all_selected v selections)
 apply s (operation.Update one) (v ∷ new ∷ rest) = gives (updated v one new)

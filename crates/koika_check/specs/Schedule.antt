@@ -11,8 +11,9 @@ use Rattle.typed_core.specs.declared.design.Next.{Next}
 use Rattle.typed_core.specs.declared.design.Next.TheVariants as next
 use Rattle.typed_core.specs.declared.design.Node.{Node}
 use Rattle.koika_check.specs.Outcomes.{CheckResult, ◌>>=◌, Gives, found, holds, one_by_one, where_all, wrong}
-use Rattle.koika_check.specs.Scopes.{rule_named}
 use Rattle.koika_check.specs.declared.checked.Checked.{Checked}
+use Rattle.koika_check.specs.Kinds.{number_named}
+use Rattle.koika_check.specs.declared.things.Kind.TheVariants as kind
 
 -- ---- paths
 
@@ -22,7 +23,7 @@ is_on rule path = list_any (nat_eq rule) path
 
 -- a name after a path: a rule (20) that isn't on the path (27)
 abbrev pub tried : Checked → (path : List ℕ) → Name → CheckResult ℕ
-tried d path n = found (rule_named d n.text) (wrong UNKNOWN_NAME n.place) >>= λ rule.
+tried d path n = found (number_named kind.Rule d n.text) (wrong UNKNOWN_NAME n.place) >>= λ rule.
     where_all (holds (not (is_on rule path)) (wrong RULE_TWICE_ON_A_PATH n.place) ∷ []) rule
 
 -- the path after names that stand one after another

@@ -12,13 +12,14 @@ use Rattle.koika_check.specs.declared.checked.CheckedFunction.{CheckedFunction}
 use Rattle.koika_check.specs.declared.checked.Host.{Host}
 use Rattle.koika_check.specs.declared.checked.Input.{Input}
 use Rattle.koika_check.specs.declared.checked.Register.{Register}
-use Rattle.koika_check.specs.declared.checked.CheckedRule.{CheckedRule}
 use Rattle.koika_check.specs.declared.checked.Table.{Table}
 use Rattle.koika_check.specs.declared.typed.Operation.{Operation}
 use Rattle.koika_check.specs.declared.typed.Operation.TheVariants as operation
 use Rattle.koika_check.specs.declared.typed.Typed.{Typed}
 use Rattle.koika_check.specs.declared.typed.Typed.TheVariants as typed
 use Rattle.koika_check.specs.declared.typed.ValueType.{ValueType}
+use Rattle.koika_check.specs.Kinds.{number_named}
+use Rattle.koika_check.specs.declared.things.Kind.TheVariants as kind
 
 -- a name that is bound, and its type
 pub record Local : Type 0 where
@@ -38,32 +39,6 @@ pub record Scope : Type 0 where
 abbrev pub bound : List ℕ → ValueType → Scope → Scope
 bound name of scope = record { design = scope.design; locals = record { name = name; of = of } ∷ scope.locals }
 
--- ---- what is declared, by kinds
-
--- the number of the register of a name
-abbrev pub register_named : Checked → List ℕ → Option ℕ
-register_named d = number_of (map (λ (r : Register). r.name) d.registers)
-
--- the number of the input of a name
-abbrev pub input_named : Checked → List ℕ → Option ℕ
-input_named d = number_of (map (λ (i : Input). i.name) d.inputs)
-
--- the number of the table of a name
-abbrev pub table_named : Checked → List ℕ → Option ℕ
-table_named d = number_of (map (λ (t : Table). t.name) d.tables)
-
--- the number of the host function of a name
-abbrev pub host_named : Checked → List ℕ → Option ℕ
-host_named d = number_of (map (λ (h : Host). h.name) d.hosts)
-
--- the number of the function of a name
-abbrev pub function_named : Checked → List ℕ → Option ℕ
-function_named d = number_of (map (λ (f : CheckedFunction). f.name) d.functions)
-
--- the number of the rule of a name
-abbrev pub rule_named : Checked → List ℕ → Option ℕ
-rule_named d = number_of (map (λ (r : CheckedRule). r.name) d.rules)
-
 -- ---- registers
 
 -- the type of a register, if there is one
@@ -73,7 +48,7 @@ type_of_register (Some register) = Some register.of
 
 -- `read` and `write` want a register (20)
 abbrev pub register : Checked → Name → CheckResult ℕ
-register d n = found (register_named d n.text) (wrong UNKNOWN_NAME n.place)
+register d n = found (number_named kind.Register d n.text) (wrong UNKNOWN_NAME n.place)
 
 -- the type of the register of this number
 abbrev pub register_type : Checked → ℕ → Option ValueType
@@ -111,7 +86,7 @@ abbrev pub bare : Scope → Name → CheckResult Named
 bare scope n = found
     (or_else
     (local_by (local_named scope.locals n.text) (at scope.locals (local_named scope.locals n.text)))
-    (input_by (input_named scope.design n.text) (at scope.design.inputs (input_named scope.design n.text))))
+    (input_by (number_named kind.Input scope.design n.text) (at scope.design.inputs (number_named kind.Input scope.design n.text))))
     (wrong UNKNOWN_NAME n.place)
 
 -- ---- what is called
@@ -146,7 +121,7 @@ called_host number h = None
 -- a call wants a function, a table or a host function (20)
 abbrev pub called : Checked → Name → CheckResult Called
 called d n = found
-    (or_else (called_function (function_named d n.text) (at d.functions (function_named d n.text)))
-    (or_else (called_table (table_named d n.text) (at d.tables (table_named d n.text)))
-    (called_host (host_named d n.text) (at d.hosts (host_named d n.text)))))
+    (or_else (called_function (number_named kind.Function d n.text) (at d.functions (number_named kind.Function d n.text)))
+    (or_else (called_table (number_named kind.Table d n.text) (at d.tables (number_named kind.Table d n.text)))
+    (called_host (number_named kind.Host d n.text) (at d.hosts (number_named kind.Host d n.text)))))
     (wrong UNKNOWN_NAME n.place)

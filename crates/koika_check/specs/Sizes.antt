@@ -115,7 +115,7 @@ own_depth o parts = 1
 -- the size of an operation on operands
 abbrev pub operation_size : Rests → Operation → List Size → Size
 -- a chain of n operators: n and its operands
-operation_size r (operation.Chain operators) parts = heavier (length operators) (chain_size (length operators) parts)
+operation_size r (operation.Chain operators width) parts = heavier (length operators) (chain_size (length operators) parts)
 -- a call of a function with p arguments: 1, its arguments and the body; j and the depth of argument j, or p + 1 and the body's
 operation_size r (operation.Call function) parts =
     heavier 1 (both (one_deeper parts) (deeper (length parts + 1) (body_of (slice_get r.bodies function))))

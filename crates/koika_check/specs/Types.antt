@@ -3,7 +3,6 @@
 -- 1800-2017 has them (7.2.1, 7.4.1).
 use Rattle.std.specs.Prelude.{ℕ, ◌*◌, nat_eq, nat_le, Bool, true, false, ◌&&◌, map, List, [], ◌∷◌, Option, Some, None, slice_index, is_some}
 use Rattle.std.specs.Str.{bytes_eq}
-use Rattle.kw_base.specs.Names.{number_of}
 use Rattle.kw_base.specs.declared.fault_number.TheConstants.{UNKNOWN_NAME, WRONG_TYPE, WRONG_WIDTH}
 use Rattle.koika_syntax.specs.declared.tree.Name.{Name}
 use Rattle.koika_syntax.specs.declared.tree.TypeExpression.{TypeExpression, TypeExpression-F, fold-TypeExpression}
@@ -16,6 +15,8 @@ use Rattle.koika_check.specs.declared.checked.Struct.{Struct}
 use Rattle.koika_check.specs.declared.typed.BaseType.{BaseType}
 use Rattle.koika_check.specs.declared.typed.BaseType.TheVariants as base
 use Rattle.koika_check.specs.declared.typed.ValueType.{ValueType}
+use Rattle.koika_check.specs.Kinds.{number_named}
+use Rattle.koika_check.specs.declared.things.Kind.TheVariants as kind
 
 -- ---- types
 
@@ -61,15 +62,12 @@ all_lengths (length ∷ lengths) = length * all_lengths lengths
 abbrev pub width_of : Checked → ValueType → ℕ
 width_of d t = base_width d t.base * all_lengths t.lengths
 
+-- the same, 0 where it is unit
+abbrev pub width_if : Checked → Option ValueType → ℕ
+width_if d None = 0
+width_if d (Some t) = width_of d t
+
 -- ---- declared types
-
--- the number of the enum of a name
-abbrev pub enum_named : Checked → List ℕ → Option ℕ
-enum_named d = number_of (map (λ (e : EnumDecl). e.name) d.enums)
-
--- the number of the struct of a name
-abbrev pub struct_named : Checked → List ℕ → Option ℕ
-struct_named d = number_of (map (λ (s : Struct). s.name) d.structs)
 
 -- an enum, or else a struct
 abbrev pub type_by : Option ℕ → Option ℕ → Option BaseType
@@ -79,7 +77,7 @@ type_by None None = None
 
 -- the enum or the struct of a name
 abbrev pub type_named : Checked → List ℕ → Option BaseType
-type_named d name = type_by (enum_named d name) (struct_named d name)
+type_named d name = type_by (number_named kind.Enum d name) (number_named kind.Struct d name)
 
 -- a named type is declared, else 20; its width is 1 to 128, else 23
 abbrev pub named_type : Checked → Name → CheckResult ValueType

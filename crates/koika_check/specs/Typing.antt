@@ -140,7 +140,7 @@ Replaces d (selection.Bits high low) whole new = ⊥
 -- first ones, may be called.
 abbrev pub Applies : Checked → (functions : ℕ) → Operation → List ValueType → Option ValueType → Type 0
 Applies d functions (operation.Unary operators) (t ∷ []) of = (width : ℕ) × (t ≡ bits width) × (of ≡ Some t)
-Applies d functions (operation.Chain operators) (t ∷ rest) of = (1 ≤ length operators) × (whole : ValueType) × Chains operators t rest whole × (of ≡ Some whole)
+Applies d functions (operation.Chain operators width) (t ∷ rest) of = (1 ≤ length operators) × (whole : ValueType) × Chains operators t rest whole × (of ≡ Some whole) × (width ≡ width_of d t)
 Applies d functions (operation.Select selections) (t ∷ []) of = (part : ValueType) × TakesAll d selections t part × (of ≡ Some part)
 Applies d functions (operation.Update one) (t ∷ new ∷ []) of = Replaces d one t new × (of ≡ Some t)
 Applies d functions (operation.Struct number) types of =

@@ -5,7 +5,6 @@ pub mod Checking
 pub mod Checks
 pub mod Constants
 pub mod Expressions
-pub mod Gauges
 pub mod Listed
 pub mod Locals
 pub mod Outcomes

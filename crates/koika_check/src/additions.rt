@@ -9,7 +9,7 @@ ghost use Rattle.koika_check.specs.inner.Things.{thing_named};
 use crate::checked::{CheckedFunction, CheckedRule, Host, Input, Register, Table};
 use crate::checker::{Checker, Signature};
 use crate::shapes::Shape;
-use crate::things::Thing;
+use crate::things::{Kind, Thing};
 use koika_syntax::Name;
 use kw_bits::NoMemory;
 
@@ -32,8 +32,13 @@ impl Checker {
         let number = next_number(self.design.registers.len())?;
         self.design.registers.push(register)?;
         self.registers.push(shape)?;
-        self.things
-            .declare(name.text.as_slice(), Thing::Register(number))?;
+        self.things.declare(
+            name.text.as_slice(),
+            Thing {
+                kind: Kind::Register,
+                number,
+            },
+        )?;
         Ok(())
     }
 
@@ -55,8 +60,13 @@ impl Checker {
         let number = next_number(self.design.inputs.len())?;
         self.design.inputs.push(input)?;
         self.inputs.push(shape)?;
-        self.things
-            .declare(name.text.as_slice(), Thing::Input(number))?;
+        self.things.declare(
+            name.text.as_slice(),
+            Thing {
+                kind: Kind::Input,
+                number,
+            },
+        )?;
         Ok(())
     }
 
@@ -72,8 +82,13 @@ impl Checker {
     {
         let number = next_number(self.design.tables.len())?;
         self.design.tables.push(table)?;
-        self.things
-            .declare(name.text.as_slice(), Thing::Table(number))?;
+        self.things.declare(
+            name.text.as_slice(),
+            Thing {
+                kind: Kind::Table,
+                number,
+            },
+        )?;
         Ok(())
     }
 
@@ -89,8 +104,13 @@ impl Checker {
     {
         let number = next_number(self.design.hosts.len())?;
         self.design.hosts.push(host)?;
-        self.things
-            .declare(name.text.as_slice(), Thing::Host(number))?;
+        self.things.declare(
+            name.text.as_slice(),
+            Thing {
+                kind: Kind::Host,
+                number,
+            },
+        )?;
         Ok(())
     }
 
@@ -112,8 +132,13 @@ impl Checker {
         let number = next_number(self.design.functions.len())?;
         self.design.functions.push(function)?;
         self.functions.push(signature)?;
-        self.things
-            .declare(name.text.as_slice(), Thing::Function(number))?;
+        self.things.declare(
+            name.text.as_slice(),
+            Thing {
+                kind: Kind::Function,
+                number,
+            },
+        )?;
         Ok(())
     }
 
@@ -129,8 +154,13 @@ impl Checker {
         let number = next_number(self.design.rules.len())?;
         self.design.rules.push(rule)?;
         self.asserted.push(false)?;
-        self.things
-            .declare(name.text.as_slice(), Thing::Rule(number))?;
+        self.things.declare(
+            name.text.as_slice(),
+            Thing {
+                kind: Kind::Rule,
+                number,
+            },
+        )?;
         Ok(())
     }
 }

@@ -14,9 +14,10 @@ ghost use Rattle.koika_check.specs.declared.typed.ValueType.{ValueType};
 use crate::agreement::{Part, agrees};
 use crate::checker::{Checker, Typing, Typings};
 use crate::constructs::at;
-use crate::names::{function_of, host_of, table_of, unknown};
+use crate::names::unknown;
 use crate::shapes::Shape;
 use crate::stop::{Stop, Wrong, least, refuse, unless};
+use crate::things::{Kind, number_if};
 use crate::typed::{Operation, Typed};
 use koika_syntax::Name;
 use kw_base::fault_number;
@@ -54,13 +55,13 @@ impl Checker {
         ensures { Tells (IsCalled self.now) (scopes.called self.now.design name.now) result }
     {
         let thing = self.things.named(name.text.as_slice());
-        if let Some(number) = function_of(thing) {
+        if let Some(number) = number_if(Kind::Function, thing) {
             return Ok(self.called_function(number)?);
         }
-        if let Some(number) = table_of(thing) {
+        if let Some(number) = number_if(Kind::Table, thing) {
             return Ok(self.called_table(number)?);
         }
-        match host_of(thing) {
+        match number_if(Kind::Host, thing) {
             Some(number) => Ok(self.called_host(number)?),
             None => Err(unknown(name)),
         }

@@ -2,11 +2,11 @@
 
 ghost use Rattle.std.specs.Prelude.{◌≡◌, [], All, length};
 ghost use Rattle.kw_bits.specs.Host.{TakesWidth};
-ghost use Rattle.koika_check.specs.inner.Checking.{IsChecker, IsNamed, arrays_of};
+ghost use Rattle.koika_check.specs.inner.Checking.{IsChecker, IsNamed, IsTypeOrUnit, arrays_of};
 ghost use Rattle.koika_check.specs.Declarations.{nothing};
 ghost use Rattle.koika_check.specs.inner.Settled.{IsSettled};
-ghost use Rattle.koika_check.specs.inner.Shapes.{IsShape, type_of_shape};
-ghost use Rattle.koika_check.specs.Types.{width_of};
+ghost use Rattle.koika_check.specs.inner.Shapes.{IsShape, type_if, type_of_shape};
+ghost use Rattle.koika_check.specs.Types.{width_if, width_of};
 ghost use Rattle.kw_bits.specs.declared.host.HostSpec.{HostSpec as Spec};
 
 use crate::agreement::Part;
@@ -117,6 +117,18 @@ impl Checker {
             Shape::Enum(number) => self.design.enums[number as usize].width,
             Shape::Struct(number) => self.design.structs[number as usize].width,
             Shape::Array(number) => self.shapes.array(number).width,
+        }
+    }
+
+    /// How many bits a value of the type has, 0 where it is unit.
+    pub(crate) fn width_if(&self, of: Option<Shape>) -> u32
+        requires checker { IsChecker self.now }
+        requires known { IsTypeOrUnit self.now of }
+        ensures { result ≡ width_if self.now.design (type_if (arrays_of self.now) of) }
+    {
+        match of {
+            Some(shape) => self.width(shape),
+            None => 0,
         }
     }
 }

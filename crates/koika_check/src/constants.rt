@@ -7,7 +7,9 @@ ghost use Rattle.koika_check.specs.Constants.{constant_of, struct_known};
 ghost use Rattle.koika_check.specs.inner.Constants.{constant_field_of};
 ghost use Rattle.koika_check.specs.Outcomes.{◌>>=◌ as ◌▹◌, found, in_turn, wrong};
 ghost use Rattle.koika_check.specs.inner.Outcomes.{Tells};
-ghost use Rattle.koika_check.specs.Types.{bits, part, struct_named};
+ghost use Rattle.koika_check.specs.Types.{bits, part};
+ghost use Rattle.koika_check.specs.Kinds.{number_named};
+ghost use Rattle.koika_check.specs.declared.things.Kind.TheVariants as kind;
 ghost use Rattle.kw_base.specs.declared.fault_number.TheConstants.{UNKNOWN_NAME, WRONG_FIELD};
 ghost use Rattle.std.specs.Prelude.{Some};
 ghost use Rattle.koika_check.specs.declared.checker.Checker.{Checker as Checking};
@@ -17,7 +19,7 @@ use crate::checker::{Checker, Known};
 use crate::composites::Given;
 use crate::shapes::Shape;
 use crate::stop::{Stop, stop_at};
-use crate::things::Thing;
+use crate::things::{Kind, Thing};
 use koika_syntax::{Constant, ConstantField, Literal, Name};
 use koika_types::Value;
 use kw_base::fault_number;
@@ -72,10 +74,10 @@ impl Checker {
         close: u32,
     ) -> Result<Known, Stop>
         requires { IsReady self.old }
-        ensures { Checks (IsKnown (scope_of self.old)) self.old (found (struct_named self.old.design of.now.text) (wrong UNKNOWN_NAME of.now.place) ▹ λ number.
+        ensures { Checks (IsKnown (scope_of self.old)) self.old (found (number_named kind.Struct self.old.design of.now.text) (wrong UNKNOWN_NAME of.now.place) ▹ λ number.
             in_turn (λ f. constant_field_of f self.old.design) fields.now ▹ struct_known self.old.design number of.now.place close) self.new result }
     {
-        let number = self.struct_named(of)?;
+        let number = self.number_named(Kind::Struct, of)?;
         let fields = self.constant_fields(number, fields)?;
         let given = fields.given.as_slice();
         Ok(Known {
@@ -127,7 +129,7 @@ impl Checker {
         requires { IsChecker self.now }
         ensures { Tells (IsMember self.now of.now.place) (types.member self.now.design of.now member.now) result }
     {
-        let number = self.enum_named(of)?;
+        let number = self.number_named(Kind::Enum, of)?;
         Ok(Known {
             part: Part {
                 of: Some(Shape::Enum(number)),
@@ -144,7 +146,14 @@ impl Checker {
         ensures { Tells (λ bits of. bits ≡ of) (found (types.member_named (types.members_of self.now.design of) member.now.text) (wrong WRONG_FIELD member.now.place)) result }
     {
         let name = member.text.as_slice();
-        match self.parts.find(self.alloc, Thing::Enum(of), name)? {
+        match self.parts.find(
+            self.alloc,
+            Thing {
+                kind: Kind::Enum,
+                number: of,
+            },
+            name,
+        )? {
             Some(position) => Ok(self.design.enums[of as usize].members[position as usize].bits),
             None => Err(stop_at(fault_number::WRONG_FIELD, member.place)),
         }

@@ -12,11 +12,12 @@ ghost use Rattle.koika_check.specs.declared.typed.Typed.TheVariants as made;
 use crate::agreement::{Part, agrees, wrong_type};
 use crate::checker::{Checker, Typing};
 use crate::constants::literal_part;
-use crate::names::{input_of, unknown};
+use crate::names::unknown;
 use crate::operators::{compared, width_of_bits};
 use crate::shapes::Shape;
 use crate::stop::{Stop, refuse, unless};
 use crate::suffixes::Selected;
+use crate::things::{Kind, number_if};
 use crate::typed::{Operation, Typed};
 use crate::types::NamedType;
 use koika_syntax::{
@@ -36,7 +37,7 @@ impl Checker {
         if let Some(local) = self.locals.named(name.text.as_slice()) {
             return Ok(at(name.place, Some(local.shape), Typed::Local(local.index)));
         }
-        match input_of(self.things.named(name.text.as_slice())) {
+        match number_if(Kind::Input, self.things.named(name.text.as_slice())) {
             Some(number) => Ok(at(
                 name.place,
                 Some(self.inputs[number as usize]),
@@ -63,7 +64,7 @@ impl Checker {
         requires { IsChecker self.now }
         ensures { Tells (TypedAs self.now) (types.read_in self.now.design place port register.now) result }
     {
-        let register = self.register_named(register)?;
+        let register = self.number_named(Kind::Register, register)?;
         let of = Some(self.registers[register as usize]);
         let operation = Operation::Read { port, register };
         Ok(at(

@@ -16,6 +16,7 @@ use crate::agreement::agrees;
 use crate::checked::{Host, Input, Register, Table};
 use crate::checker::Checker;
 use crate::stop::{Stop, Wrong, least, refuse, stop_at, unless};
+use crate::things::Kind;
 use crate::types::is_width;
 use koika_syntax::{Constant, Literal, Name, TypeExpression, Width};
 use kw_base::fault_number;
@@ -134,7 +135,7 @@ impl Checker {
         ensures hosts { OnOk result (self.new.hosts ≡ self.old.hosts) }
         ensures answers { Answers (λ _ x. self.new.design ≡ record self.old.design { asserts = self.old.design.asserts ++ x ∷ [] }) (declarations.assert_with self.old.design name.now) result }
     {
-        let rule = self.rule_named(name)?;
+        let rule = self.number_named(Kind::Rule, name)?;
         if self.asserted[rule as usize] {
             return Err(repeated(name));
         }

@@ -7,16 +7,16 @@ ghost use Rattle.koika_check.specs.inner.Listed.{Keeps, Lists};
 ghost use Rattle.koika_check.specs.Outcomes.{one_by_one};
 ghost use Rattle.koika_check.specs.inner.Outcomes.{Answers};
 ghost use Rattle.koika_check.specs.inner.Settled.{IsSettled};
-ghost use Rattle.koika_check.specs.inner.Things.{AreParts, position_of};
+ghost use Rattle.koika_check.specs.inner.Things.{AreParts, position_of, thing};
 ghost use Rattle.koika_check.specs.Types as types;
-ghost use Rattle.koika_check.specs.declared.things.Thing.TheVariants as thing;
+ghost use Rattle.koika_check.specs.declared.things.Kind.TheVariants as kind;
 
 use crate::additions::next_number;
 use crate::checker::Checker;
 use crate::declarations::{has_width, repeated};
 use crate::parts::Parts;
 use crate::stop::{Stop, Wrong, least, refuse, unless};
-use crate::things::Thing;
+use crate::things::{Kind, Thing};
 use crate::types::is_width;
 use koika_syntax::{EnumMember as WrittenMember, Name, Width};
 use koika_types::{EnumDecl, Member};
@@ -50,8 +50,13 @@ impl Checker {
             members: kept,
         };
         self.design.enums.push(declared)?;
-        self.things
-            .declare(name.text.as_slice(), Thing::Enum(number))?;
+        self.things.declare(
+            name.text.as_slice(),
+            Thing {
+                kind: Kind::Enum,
+                number,
+            },
+        )?;
         Ok(())
     }
 }
@@ -64,15 +69,24 @@ fn members_of(
     members: &[WrittenMember],
 ) -> Result<Sequence<Member>, Stop>
     requires parts { AreParts parts.old }
-    requires none { (name : List ℕ) → position_of parts.old (thing.Enum number) name ≡ None }
+    requires none { (name : List ℕ) → position_of parts.old (thing kind.Enum number) name ≡ None }
     ensures kept { OnOk result (AreParts parts.new) }
-    ensures keeps { OnOk result (Keeps parts.old parts.new (thing.Enum number)) }
-    ensures answers { Answers (λ kept found. (kept ≡ found) × Lists parts.new (thing.Enum number) (declarations.names_of_members found)) (one_by_one declarations.add_member members.now []) result }
+    ensures keeps { OnOk result (Keeps parts.old parts.new (thing kind.Enum number)) }
+    ensures answers { Answers (λ kept found. (kept ≡ found) × Lists parts.new (thing kind.Enum number) (declarations.names_of_members found)) (one_by_one declarations.add_member members.now []) result }
 {
     let mut kept = Sequence::new(alloc);
     for index in 0..members.len() {
         let member = &members[index];
-        add_part(alloc, parts, Thing::Enum(number), &member.name, index)?;
+        add_part(
+            alloc,
+            parts,
+            Thing {
+                kind: Kind::Enum,
+                number,
+            },
+            &member.name,
+            index,
+        )?;
         let text = Text::from_slice(alloc, member.name.text.as_slice())?;
         kept.push(Member {
             name: text,

@@ -14,6 +14,8 @@ ghost use Rattle.koika_check.specs.Scopes as scopes;
 ghost use Rattle.koika_check.specs.inner.Shapes.{AreArrays, IsShapeIf, part_of, type_if};
 ghost use Rattle.koika_check.specs.inner.TypedParts.{AreArms, AreSteps, AreTypedFields, In, IsLast, IsStep, bound_step};
 ghost use Rattle.koika_check.specs.Types as kinds;
+ghost use Rattle.koika_check.specs.Kinds.{number_named};
+ghost use Rattle.koika_check.specs.declared.things.Kind.TheVariants as kind;
 ghost use Rattle.koika_check.specs.declared.agreement.Part.{Part as Counted};
 ghost use Rattle.koika_check.specs.declared.typed.Typed.TheVariants as made;
 ghost use Rattle.koika_check.specs.declared.typed.ValueType.{ValueType};
@@ -25,6 +27,7 @@ use crate::constructs::{abort_at, at, literal};
 use crate::operators::joined;
 use crate::shapes::Shape;
 use crate::stop::{Stop, least, refuse};
+use crate::things::Kind;
 use crate::typed::{BlockStep, Operation, Typed};
 use koika_syntax::{
     Arm, Block, Expression, Extension, FieldValue, Name, Number, Operand, Prefix, SignedComparison,
@@ -287,7 +290,7 @@ impl Checker {
         requires { IsReady self.old }
         ensures { Checks (IsTyping (scope_of self.old)) self.old (scopes.register self.old.design register.now ▹ λ number. expression_in value.now (scope_of self.old) ▹ types.written self.old.design place port number) self.new result }
     {
-        let register = self.register_named(register)?;
+        let register = self.number_named(Kind::Register, register)?;
         let value = self.expression(value)?;
         self.written(place, port, register, value)
     }
@@ -299,6 +302,7 @@ impl Checker {
         requires first { IsPart self.old first.part }
         ensures { Checks (IsTyping (scope_of self.old)) self.old (expressions.chain_in (scope_of self.old) (map operand_in rest.now) (typing_of self.old first)) self.new result }
     {
+        let width = self.width_if(first.part.of);
         let mut left = first.part;
         let mut operators = Sequence::new(self.alloc);
         let mut operands = Sequence::new(self.alloc);
@@ -313,7 +317,7 @@ impl Checker {
             operators.push(operand.operator)?;
             operands.push(right.typed)?;
         }
-        let typed = Typed::Apply(Operation::Chain(operators), operands);
+        let typed = Typed::Apply(Operation::Chain { operators, width }, operands);
         Ok(at(left.place, left.of, typed))
     }
 
@@ -321,10 +325,10 @@ impl Checker {
     #[cycle(expression)]
     fn structure(&mut self, of: &Name, fields: &[FieldValue], close: u32) -> Result<Typing, Stop>
         requires { IsReady self.old }
-        ensures { Checks (IsTyping (scope_of self.old)) self.old (found (kinds.struct_named self.old.design of.now.text) (wrong UNKNOWN_NAME of.now.place) ▹ λ number.
+        ensures { Checks (IsTyping (scope_of self.old)) self.old (found (number_named kind.Struct self.old.design of.now.text) (wrong UNKNOWN_NAME of.now.place) ▹ λ number.
             in_turn (λ f. field_value_in f (scope_of self.old)) fields.now ▹ types.struct_in self.old.design number of.now.place close) self.new result }
     {
-        let number = self.struct_named(of)?;
+        let number = self.number_named(Kind::Struct, of)?;
         let fields = self.fields(number, fields)?;
         let part = self.struct_of(number, of.place, fields.given.as_slice(), close)?;
         Ok(at(

@@ -183,7 +183,7 @@ fn weigh_operation(
     ensures { (parts : List sizes.Size) → bodies.now ≡ map counts.capped parts → result ≡ counts.capped (sizes.operation_size (record { design = design.now; bodies = parts }) operation.now (map (sizes.size_of (record { design = design.now; bodies = parts })) operands.now)) }
 {
     match operation {
-        Operation::Chain(operators) => {
+        Operation::Chain { operators, .. } => {
             weigh_chain(design, bodies, operators.len(), operands).heavier(operators.len())
         }
         Operation::Call(number) => {

@@ -80,13 +80,8 @@ impl Parts {
 fn key_of_part(alloc: Global, of: Thing, name: &[u8]) -> Result<Text, NoMemory>
     ensures { IfOk result (λ key. key ≡ key_of_part of name.now) }
 {
-    let (tag, number) = match of {
-        Thing::Enum(number) => (0, number),
-        Thing::Struct(number) => (1, number),
-        _ => (2, 0),
-    };
-    let [a, b, c, d] = number.to_le_bytes();
-    let mut key = Text::from_slice(alloc, &[tag, a, b, c, d])?;
+    let [a, b, c, d] = of.number.to_le_bytes();
+    let mut key = Text::from_slice(alloc, &[of.kind as u8, a, b, c, d])?;
     key.extend_from_slice(name)?;
     Ok(key)
 }

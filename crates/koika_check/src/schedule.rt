@@ -12,6 +12,7 @@ ghost use Rattle.typed_core.specs.declared.design.Node.{Node as SpecNode};
 use crate::checker::Checker;
 use crate::path::Path;
 use crate::stop::{Stop, stop_at};
+use crate::things::Kind;
 use koika_syntax::{Choice, Name, Scheduler};
 use kw_base::fault_number;
 use kw_bits::{Boxed, NoMemory, Sequence};
@@ -126,7 +127,7 @@ impl Nodes {
         ensures path { IfOk result (λ rule. self.new.path.rules ≡ self.old.path.rules ++ rule ∷ []) }
         ensures tells { Answers (λ rule found. rule ≡ found) (nodes.tried checker.now.design self.old.path.rules name.now) result }
     {
-        let rule = checker.rule_named(name)?;
+        let rule = checker.number_named(Kind::Rule, name)?;
         if self.path.has(rule) {
             return Err(stop_at(fault_number::RULE_TWICE_ON_A_PATH, name.place));
         }

@@ -7,8 +7,8 @@ ghost use Rattle.koika_check.specs.inner.Listed.{AreFields, GrowsInParts, Keeps,
 ghost use Rattle.koika_check.specs.Outcomes.{one_by_one};
 ghost use Rattle.koika_check.specs.inner.Outcomes.{Answers};
 ghost use Rattle.koika_check.specs.inner.Settled.{IsSettled};
-ghost use Rattle.koika_check.specs.inner.Things.{position_of};
-ghost use Rattle.koika_check.specs.declared.things.Thing.TheVariants as thing;
+ghost use Rattle.koika_check.specs.inner.Things.{position_of, thing};
+ghost use Rattle.koika_check.specs.declared.things.Kind.TheVariants as kind;
 
 use crate::additions::next_number;
 use crate::checked::{CheckedField, Struct};
@@ -16,7 +16,7 @@ use crate::checker::Checker;
 use crate::enums::add_part;
 use crate::shapes::Shape;
 use crate::stop::Stop;
-use crate::things::Thing;
+use crate::things::{Kind, Thing};
 use koika_syntax::{Field as WrittenField, Name};
 use kw_bits::{Bits, Sequence, Text};
 
@@ -52,8 +52,13 @@ impl Checker {
         };
         self.design.structs.push(declared)?;
         self.fields.push(kept.shapes)?;
-        self.things
-            .declare(name.text.as_slice(), Thing::Struct(number))?;
+        self.things.declare(
+            name.text.as_slice(),
+            Thing {
+                kind: Kind::Struct,
+                number,
+            },
+        )?;
         Ok(())
     }
 
@@ -61,12 +66,12 @@ impl Checker {
     fn all_fields(&mut self, number: u32, fields: &[WrittenField]) -> Result<Fields, Stop>
         requires checker { IsChecker self.old }
         requires new { length self.old.design.structs ≤ number }
-        requires none { (name : List ℕ) → position_of self.old.parts (thing.Struct number) name ≡ None }
+        requires none { (name : List ℕ) → position_of self.old.parts (thing kind.Struct number) name ≡ None }
         ensures kept { OnOk result (IsChecker self.new) }
         ensures grows { OnOk result (GrowsInParts self.old self.new) }
         ensures locals { OnOk result (self.new.locals ≡ self.old.locals) }
-        ensures keeps { OnOk result (Keeps self.old.parts self.new.parts (thing.Struct number)) }
-        ensures answers { Answers (λ kept found. (kept.fields ≡ found) × AreFields self.new kept × Lists self.new.parts (thing.Struct number) (declarations.names_of_fields kept.fields)) (one_by_one (declarations.add_field self.old.design) fields.now []) result }
+        ensures keeps { OnOk result (Keeps self.old.parts self.new.parts (thing kind.Struct number)) }
+        ensures answers { Answers (λ kept found. (kept.fields ≡ found) × AreFields self.new kept × Lists self.new.parts (thing kind.Struct number) (declarations.names_of_fields kept.fields)) (one_by_one (declarations.add_field self.old.design) fields.now []) result }
     {
         let mut kept = Fields {
             fields: Sequence::new(self.alloc),
@@ -89,19 +94,22 @@ impl Checker {
         requires checker { IsChecker self.old }
         requires new { length self.old.design.structs ≤ number }
         requires fields { AreFields self.old kept.old }
-        requires lists { Lists self.old.parts (thing.Struct number) (declarations.names_of_fields kept.old.fields) }
+        requires lists { Lists self.old.parts (thing kind.Struct number) (declarations.names_of_fields kept.old.fields) }
         ensures kept { OnOk result (IsChecker self.new) }
         ensures grows { OnOk result (GrowsInParts self.old self.new) }
         ensures locals { OnOk result (self.new.locals ≡ self.old.locals) }
-        ensures keeps { OnOk result (Keeps self.old.parts self.new.parts (thing.Struct number)) }
+        ensures keeps { OnOk result (Keeps self.old.parts self.new.parts (thing kind.Struct number)) }
         ensures fields { OnOk result (AreFields self.new kept.new) }
-        ensures lists { OnOk result (Lists self.new.parts (thing.Struct number) (declarations.names_of_fields kept.new.fields)) }
+        ensures lists { OnOk result (Lists self.new.parts (thing kind.Struct number) (declarations.names_of_fields kept.new.fields)) }
         ensures answers { Answers (λ _ found. kept.new.fields ≡ found) (declarations.add_field self.old.design field.now kept.old.fields) result }
     {
         add_part(
             self.alloc,
             &mut self.parts,
-            Thing::Struct(number),
+            Thing {
+                kind: Kind::Struct,
+                number,
+            },
             &field.name,
             kept.fields.len(),
         )?;

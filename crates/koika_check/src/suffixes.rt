@@ -16,7 +16,7 @@ use crate::agreement::{Part, agrees, wrong_type};
 use crate::checker::Checker;
 use crate::shapes::Shape;
 use crate::stop::{Stop, Wrong, least, refuse, stop_at, unless};
-use crate::things::Thing;
+use crate::things::{Kind, Thing};
 use crate::typed::Selection;
 use koika_syntax::{Name, Number, Suffix};
 use kw_base::fault_number;
@@ -95,7 +95,14 @@ impl Checker {
         ensures { IfOk result (λ found. found ≡ field_named (fields_of self.now.design of) name.now.text) }
     {
         let name = name.text.as_slice();
-        self.parts.find(self.alloc, Thing::Struct(of), name)
+        self.parts.find(
+            self.alloc,
+            Thing {
+                kind: Kind::Struct,
+                number: of,
+            },
+            name,
+        )
     }
 
     // The item of an array, or the bit of bits, at an index.

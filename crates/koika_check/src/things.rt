@@ -2,23 +2,30 @@
 
 ghost use Rattle.std.specs.Prelude.{◌≡◌, List, ℕ, None, Some, OnOk, if◌then◌else◌};
 ghost use Rattle.std.specs.Str.{bytes_eq};
-ghost use Rattle.koika_check.specs.inner.Things.{AreThings, thing_named};
+ghost use Rattle.koika_check.specs.inner.Things.{AreThings, number_if, thing_named};
 
 use kw_base::{Added, Names};
 use kw_bits::{NoMemory, Sequence};
 use std::alloc::Global;
 
+/// The kinds of what a design declares by a name.
+#[derive(Clone, Copy, Debug, PartialEq, Eq)]
+pub enum Kind {
+    Enum,
+    Struct,
+    Register,
+    Input,
+    Table,
+    Host,
+    Function,
+    Rule,
+}
+
 /// What a declared name stands for: its kind, and its number among those of the kind.
 #[derive(Clone, Copy, Debug, PartialEq, Eq)]
-pub(crate) enum Thing {
-    Enum(u32),
-    Struct(u32),
-    Register(u32),
-    Input(u32),
-    Table(u32),
-    Host(u32),
-    Function(u32),
-    Rule(u32),
+pub(crate) struct Thing {
+    pub kind: Kind,
+    pub number: u32,
 }
 
 /// What the names of a design are declared as.
@@ -64,5 +71,15 @@ impl Things {
             Added::There(_) => Ok(()),
             Added::New(_) => Ok(self.things.push(thing)?),
         }
+    }
+}
+
+/// The number of what is declared, if it is of this kind.
+pub(crate) fn number_if(kind: Kind, thing: Option<Thing>) -> Option<u32>
+    ensures { result ≡ number_if kind thing }
+{
+    match thing {
+        Some(thing) if thing.kind == kind => Some(thing.number),
+        _ => None,
     }
 }

@@ -48,8 +48,11 @@ pub enum Selection {
 pub enum Operation {
     /// Prefix operators on one operand, the outermost first.
     Unary(Sequence<UnaryOperator>),
-    /// Operators between operands, one fewer than those, grouped to the left.
-    Chain(Sequence<BinaryOperator>),
+    /// Operators between operands, one fewer than those, grouped to the left. The first operand has this width.
+    Chain {
+        operators: Sequence<BinaryOperator>,
+        width: u32,
+    },
     /// A part of one operand, a part of that, and so on.
     Select(Sequence<Selection>),
     /// One operand with a part replaced by another.
@@ -63,7 +66,10 @@ pub enum Operation {
     /// The value of this type that has these bits.
     Unpack(ValueType),
     /// More bits above, up to this width.
-    Extend { extension: Extension, width: u32 },
+    Extend {
+        extension: Extension,
+        width: u32,
+    },
     /// A comparison of two signed numbers.
     Compare(SignedComparison),
     /// The table of this number, asked at one operand.
@@ -73,9 +79,15 @@ pub enum Operation {
     /// The function of this number, called with its arguments.
     Call(u32),
     /// A read at a port of the register of this number, of no operand.
-    Read { port: u32, register: u32 },
+    Read {
+        port: u32,
+        register: u32,
+    },
     /// A write of one operand at a port of the register of this number.
-    Write { port: u32, register: u32 },
+    Write {
+        port: u32,
+        register: u32,
+    },
     /// The end of the rule without effect, of no operand.
     Abort,
 }

@@ -10,7 +10,7 @@ ghost use Rattle.koika_check.specs.Types as types;
 use crate::checker::Checker;
 use crate::shapes::{ArrayShape, Shape};
 use crate::stop::{Stop, stop_at};
-use crate::things::Thing;
+use crate::things::{Kind, Thing};
 use crate::typed::{BaseType, ValueType};
 use koika_syntax::{Name, TypeExpression};
 use kw_base::fault_number;
@@ -143,9 +143,10 @@ impl Checker {
 fn base_of(thing: Option<Thing>) -> Option<BaseType>
     ensures { result ≡ type_by_thing thing }
 {
-    match thing {
-        Some(Thing::Enum(number)) => Some(BaseType::Enum(number)),
-        Some(Thing::Struct(number)) => Some(BaseType::Struct(number)),
+    let Thing { kind, number } = thing?;
+    match kind {
+        Kind::Enum => Some(BaseType::Enum(number)),
+        Kind::Struct => Some(BaseType::Struct(number)),
         _ => None,
     }
 }

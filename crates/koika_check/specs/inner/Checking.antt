@@ -15,11 +15,11 @@ use Rattle.koika_check.specs.inner.Locals.{AreLocals, locals_of, shapes_of}
 use Rattle.koika_check.specs.Outcomes.{CheckResult, Gives}
 use Rattle.koika_check.specs.inner.Outcomes.{Ends, Stop}
 use Rattle.koika_check.specs.Scopes as scopes
-use Rattle.koika_check.specs.Scopes.{Scope, function_named, host_named, input_named, register_named, rule_named, table_named}
+use Rattle.koika_check.specs.Scopes.{Scope}
 use Rattle.koika_check.specs.Selections as selections
 use Rattle.koika_check.specs.inner.Shapes.{AreShapes, IsShape, array_types, part_of, type_if, type_of_shape}
-use Rattle.koika_check.specs.inner.Things.{AreParts, AreThings, position_of, thing_named}
-use Rattle.koika_check.specs.Types.{TypedPart as TypedPart, base_width, bits, enum_named, struct_named, width_of}
+use Rattle.koika_check.specs.inner.Things.{AreParts, AreThings, number_if, position_of, thing, thing_named}
+use Rattle.koika_check.specs.Types.{TypedPart as TypedPart, base_width, bits, width_of}
 use Rattle.koika_check.specs.declared.agreement.Part.{Part}
 use Rattle.koika_check.specs.declared.checked.Checked.{Checked}
 use Rattle.koika_check.specs.declared.checked.CheckedField.{CheckedField}
@@ -42,62 +42,39 @@ use Rattle.koika_check.specs.declared.shapes.Shape.{Shape}
 use Rattle.koika_check.specs.declared.shapes.Shape.TheVariants as shape
 use Rattle.koika_check.specs.declared.suffixes.Selected.{Selected}
 use Rattle.koika_check.specs.declared.things.Thing.{Thing}
-use Rattle.koika_check.specs.declared.things.Thing.TheVariants as thing
 use Rattle.koika_check.specs.declared.typed.BaseType.{BaseType}
 use Rattle.koika_check.specs.declared.typed.BaseType.TheVariants as base
 use Rattle.koika_check.specs.declared.typed.ValueType.{ValueType}
+use Rattle.koika_check.specs.Kinds.{number_named}
+use Rattle.koika_check.specs.declared.things.Kind.{Kind}
+use Rattle.koika_check.specs.declared.things.Kind.TheVariants as kind
 
 -- ---- names
 
--- the number of what is declared, if it is of this kind
-abbrev pub enum_by : Option Thing → Option ℕ
-enum_by (Some (thing.Enum number)) = Some number
-enum_by other = None
+-- how many of a kind are declared
+abbrev pub count_of : Kind → Checked → ℕ
+count_of kind.Enum d = length d.enums
+count_of kind.Struct d = length d.structs
+count_of kind.Register d = length d.registers
+count_of kind.Input d = length d.inputs
+count_of kind.Table d = length d.tables
+count_of kind.Host d = length d.hosts
+count_of kind.Function d = length d.functions
+count_of kind.Rule d = length d.rules
 
-abbrev pub struct_by : Option Thing → Option ℕ
-struct_by (Some (thing.Struct number)) = Some number
-struct_by other = None
+-- the type that a thing of this kind and number is, if it is one
+abbrev pub type_by_kind : Kind → ℕ → Option BaseType
+type_by_kind kind.Enum number = Some (base.Enum number)
+type_by_kind kind.Struct number = Some (base.Struct number)
+type_by_kind other number = None
 
-abbrev pub register_by : Option Thing → Option ℕ
-register_by (Some (thing.Register number)) = Some number
-register_by other = None
-
-abbrev pub input_by : Option Thing → Option ℕ
-input_by (Some (thing.Input number)) = Some number
-input_by other = None
-
-abbrev pub table_by : Option Thing → Option ℕ
-table_by (Some (thing.Table number)) = Some number
-table_by other = None
-
-abbrev pub host_by : Option Thing → Option ℕ
-host_by (Some (thing.Host number)) = Some number
-host_by other = None
-
-abbrev pub function_by : Option Thing → Option ℕ
-function_by (Some (thing.Function number)) = Some number
-function_by other = None
-
-abbrev pub rule_by : Option Thing → Option ℕ
-rule_by (Some (thing.Rule number)) = Some number
-rule_by other = None
-
--- the type that a thing is, if it is one
 abbrev pub type_by_thing : Option Thing → Option BaseType
-type_by_thing (Some (thing.Enum number)) = Some (base.Enum number)
-type_by_thing (Some (thing.Struct number)) = Some (base.Struct number)
-type_by_thing other = None
+type_by_thing None = None
+type_by_thing (Some t) = type_by_kind t.kind t.number
 
 -- a name is declared as this thing, or isn't declared
-pub record IsDeclared (d : Checked) (name : List ℕ) (t : Option Thing) : Type 0 where
-  pub enums : enum_by t ≡ enum_named d name
-  pub structs : struct_by t ≡ struct_named d name
-  pub registers : register_by t ≡ register_named d name
-  pub inputs : input_by t ≡ input_named d name
-  pub tables : table_by t ≡ table_named d name
-  pub hosts : host_by t ≡ host_named d name
-  pub functions : function_by t ≡ function_named d name
-  pub rules : rule_by t ≡ rule_named d name
+abbrev pub IsDeclared : Checked → List ℕ → Option Thing → Type 0
+IsDeclared d name t = (k : Kind) → number_if k t ≡ number_named k d name
 
 -- ---- types
 
@@ -167,9 +144,9 @@ pub record IsChecker (c : Checker) : Type 0 where
   pub names : (name : List ℕ) → IsDeclared c.design name (thing_named c.things name)
   pub parts : AreParts c.parts
   pub members : (number : ℕ) → number < length c.design.enums → (name : List ℕ) →
-      position_of c.parts (thing.Enum number) name ≡ number_of (map (λ (m : Member). m.name) (members_of c.design number)) name
+      position_of c.parts (thing kind.Enum number) name ≡ number_of (map (λ (m : Member). m.name) (members_of c.design number)) name
   pub named_fields : (number : ℕ) → number < length c.design.structs → (name : List ℕ) →
-      position_of c.parts (thing.Struct number) name ≡ field_named (fields_of c.design number) name
+      position_of c.parts (thing kind.Struct number) name ≡ field_named (fields_of c.design number) name
   pub widths : AreWidths c.design
   pub shapes : AreShapes c.shapes
   pub arrays : (i : ℕ) (d : ArrayShape) → i < length c.shapes.arrays → (slice_index_or c.shapes.arrays i d).width ≡ width_of c.design (slice_index_or (arrays_of c) i (bits 0))

@@ -1,5 +1,5 @@
 use Rattle.std.proofs.Common.{◌≡◌, sum_by, take}
-use Rattle.koika_check.specs.inner.Gauges.{cap}
+use Rattle.koika_check.specs.inner.BitWeights.{cap}
 use Rattle.koika_check.specs.declared.checked.Register.{Register}
 use Rattle.koika_check.proofs.bit_weight.register_bits.Given as goal
 

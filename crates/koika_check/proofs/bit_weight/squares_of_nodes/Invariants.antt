@@ -1,6 +1,6 @@
 use Rattle.std.proofs.Common.{◌≡◌, sum_by, take}
 use Rattle.koika_check.specs.BitWeights.{node_squares}
-use Rattle.koika_check.specs.inner.Gauges.{cap}
+use Rattle.koika_check.specs.inner.BitWeights.{cap}
 use Rattle.koika_check.proofs.bit_weight.squares_of_nodes.Given as goal
 
 abbrev pub invariant-loop-node : goal.invariant-loop-node

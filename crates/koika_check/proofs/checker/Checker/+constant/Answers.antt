@@ -10,7 +10,8 @@ use Rattle.koika_check.specs.inner.Constants.{constant_field_of}
 use Rattle.koika_check.specs.Constants as constants
 use Rattle.koika_check.specs.Outcomes.{◌>>=◌, found, in_turn, wrong}
 use Rattle.koika_check.specs.inner.Outcomes.{Ends}
-use Rattle.koika_check.specs.Types.{struct_named}
+use Rattle.koika_check.specs.Kinds.{number_named}
+use Rattle.koika_check.specs.declared.things.Kind.TheVariants as kind
 use Rattle.koika_check.proofs.ConstantParts.{constant-Array, constant-Literal, constant-Member, constant-Struct}
 use Rattle.koika_check.proofs.Knowns.{array-ends, array-gives, fields-ends, fields-more, known-ends, known-more, literal-gives, member-known, struct-ends, struct-gives}
 use Rattle.koika_check.proofs.Growth.{checker-of}
@@ -21,14 +22,14 @@ use Rattle.koika_check.proofs.checker.Checker.+constant.Goals as goal
 pub constant_struct-returns-in_err-number : goal.constant_struct-returns-in_err-number
 constant_struct-returns-in_err-number t c =
     let p = err_from_is_err_and c.from_residual.result c.from_residual.ensures.1 in
-    let struct = found (struct_named c.args.self.now.design c.args.of.now.text) (wrong UNKNOWN_NAME c.args.of.now.place) in
+    let struct = found (number_named kind.Struct c.args.self.now.design c.args.of.now.text) (wrong UNKNOWN_NAME c.args.of.now.place) in
     rw (p.1, p.2) (ends-bind struct _ _ (ends-tells (λ n of. n ≡ of) struct _ c.in_err-number.ensures.found))
 
 pub constant_struct-returns-in_err-fields : goal.constant_struct-returns-in_err-fields
 constant_struct-returns-in_err-fields t c =
     let p = err_from_is_err_and c.from_residual-in_err-fields.result c.from_residual-in_err-fields.ensures.1 in
     let d = c.args.self.now.design in
-    let struct = found (struct_named d c.args.of.now.text) (wrong UNKNOWN_NAME c.args.of.now.place) in
+    let struct = found (number_named kind.Struct d c.args.of.now.text) (wrong UNKNOWN_NAME c.args.of.now.place) in
     let n = c.in_ok-number.number in
     let named = ap (λ o. found o (wrong UNKNOWN_NAME c.args.of.now.place)) (tells-found _ (wrong UNKNOWN_NAME c.args.of.now.place) n c.in_ok-number.ensures.found) in
     let fields = in_turn (λ f. constant_field_of f d) c.args.fields.now in
@@ -40,7 +41,7 @@ pub constant_struct-returns-in_err-struct_of : goal.constant_struct-returns-in_e
 constant_struct-returns-in_err-struct_of t c =
     let p = err_from_is_err_and c.from_residual-in_err-struct_of.result c.from_residual-in_err-struct_of.ensures.1 in
     let d = c.args.self.now.design in
-    let struct = found (struct_named d c.args.of.now.text) (wrong UNKNOWN_NAME c.args.of.now.place) in
+    let struct = found (number_named kind.Struct d c.args.of.now.text) (wrong UNKNOWN_NAME c.args.of.now.place) in
     let n = c.in_ok-number.number in
     let named = ap (λ o. found o (wrong UNKNOWN_NAME c.args.of.now.place)) (tells-found _ (wrong UNKNOWN_NAME c.args.of.now.place) n c.in_ok-number.ensures.found) in
     let fields = in_turn (λ f. constant_field_of f d) c.args.fields.now in
@@ -54,7 +55,7 @@ constant_struct-returns-in_err-struct_of t c =
 pub constant_struct-returns : goal.constant_struct-returns
 constant_struct-returns t c =
     let d = c.args.self.now.design in
-    let struct = found (struct_named d c.args.of.now.text) (wrong UNKNOWN_NAME c.args.of.now.place) in
+    let struct = found (number_named kind.Struct d c.args.of.now.text) (wrong UNKNOWN_NAME c.args.of.now.place) in
     let n = c.in_ok-number.number in
     let named = ap (λ o. found o (wrong UNKNOWN_NAME c.args.of.now.place)) (tells-found _ (wrong UNKNOWN_NAME c.args.of.now.place) n c.in_ok-number.ensures.found) in
     let fields = in_turn (λ f. constant_field_of f d) c.args.fields.now in
@@ -68,7 +69,7 @@ constant_struct-returns t c =
 pub constant-returns-in-Struct : goal.constant-returns-in-Struct
 constant-returns-in-Struct t c =
     let d = c.args.self.now.design in
-    let struct = found (struct_named d c.in-Struct.of.text) (wrong UNKNOWN_NAME c.in-Struct.of.place) in
+    let struct = found (number_named kind.Struct d c.in-Struct.of.text) (wrong UNKNOWN_NAME c.in-Struct.of.place) in
     subst (λ o. Checks (IsKnown (scope_of c.args.self.now)) c.args.self.now o c.constant_struct.new.self c.constant_struct.result)
     (sym (ap (λ k. constant_of k d) c.in-Struct.is ∙ constant-Struct c.in-Struct.of c.in-Struct.fields c.in-Struct.close d))
     (subst (λ xs. Checks (IsKnown (scope_of c.args.self.now)) c.args.self.now (struct >>= λ n. in_turn (λ f. constant_field_of f d) xs >>= struct_known d n c.in-Struct.of.place c.in-Struct.close) c.constant_struct.new.self c.constant_struct.result) c.as_slice.ensures c.constant_struct.ensures)

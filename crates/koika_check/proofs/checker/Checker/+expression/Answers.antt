@@ -15,8 +15,10 @@ use Rattle.koika_check.specs.inner.Outcomes.{Ends}
 use Rattle.koika_check.specs.Scopes.{called, register}
 use Rattle.koika_check.specs.inner.Shapes.{part_of}
 use Rattle.koika_check.specs.inner.TypedParts.{AreSteps, In, IsChained, IsStep, bound_step}
-use Rattle.koika_check.specs.Types.{struct_named, type_of}
+use Rattle.koika_check.specs.Types.{type_of}
 use Rattle.koika_check.specs.declared.typed.BlockStep.TheVariants as step
+use Rattle.koika_check.specs.Kinds.{number_named}
+use Rattle.koika_check.specs.declared.things.Kind.TheVariants as kind
 use Rattle.koika_check.proofs.BlockParts.{block-parts, expression-If, statement-Do, statement-Let}
 use Rattle.koika_check.proofs.Blocks.{block-ends, block-gives, block-within, closed-gives, closed-none, done-gives, run-of, running, steps-end, steps-more, steps-start}
 use Rattle.koika_check.proofs.Chains.{chain-ends, chain-ends-joined, chain-gives, chain-more, chain-start, chain-stops, joining, started}
@@ -145,15 +147,15 @@ chain-loop-operand-preserved t c =
 
 pub chain-returns : goal.chain-returns
 chain-returns t c =
-    chain-gives c.args.self.now c.loop-operand.self c.args.rest.now (typing_of c.args.self.now c.args.first) (record { left = c.loop-operand.left; operators = c.loop-operand.operators; operands = c.loop-operand.operands }) c.at.result
+    chain-gives c.args.self.now c.loop-operand.self c.args.rest.now (typing_of c.args.self.now c.args.first) c.width_if-width.result (record { left = c.loop-operand.left; operators = c.loop-operand.operators; operands = c.loop-operand.operands }) c.at.result
     (subst (λ xs. Yields (In IsChained (scope_of c.args.self.now)) c.args.self.now (one_by_one (joining (scope_of c.args.self.now)) xs (started (typing_of c.args.self.now c.args.first))) c.loop-operand.self (record { left = c.loop-operand.left; operators = c.loop-operand.operators; operands = c.loop-operand.operands })) (take_all c.loop-operand.operand-index c.args.rest.now c.loop-operand-test.false) c.loop-operand.invariant)
-    c.at.ensures
+    c.width_if-width.ensures c.at.ensures
 
 pub structure-returns : goal.structure-returns
 structure-returns t c =
     let n = c.in_ok-number.number in
     let fault = wrong UNKNOWN_NAME c.args.of.now.place in
-    let struct = found (struct_named c.args.self.now.design c.args.of.now.text) fault in
+    let struct = found (number_named kind.Struct c.args.self.now.design c.args.of.now.text) fault in
     let fields = in_turn (λ f. field_value_in f (scope_of c.args.self.now)) c.args.fields.now in
     let new = c.fields.new.self in
     let h = c.in_ok-fields.ensures in
@@ -325,7 +327,7 @@ expression-returns-in-Call t c =
 pub expression-returns-in-Struct : goal.expression-returns-in-Struct
 expression-returns-in-Struct t c =
     same-checks (IsTyping (scope_of c.args.self.now)) c.args.self.now c.structure.new.self _ _ c.structure.result
-    (ap (λ e. expression_in e (scope_of c.args.self.now)) c.in-Struct.is ∙ expression-Struct c.in-Struct.of c.in-Struct.fields c.in-Struct.close (scope_of c.args.self.now) ∙ ap (λ xs. found (struct_named c.args.self.now.design c.in-Struct.of.text) (wrong UNKNOWN_NAME c.in-Struct.of.place) >>= λ n. in_turn (λ f. field_value_in f (scope_of c.args.self.now)) xs >>= struct_in c.args.self.now.design n c.in-Struct.of.place c.in-Struct.close) (sym c.as_slice-in-Struct.ensures)) c.structure.ensures
+    (ap (λ e. expression_in e (scope_of c.args.self.now)) c.in-Struct.is ∙ expression-Struct c.in-Struct.of c.in-Struct.fields c.in-Struct.close (scope_of c.args.self.now) ∙ ap (λ xs. found (number_named kind.Struct c.args.self.now.design c.in-Struct.of.text) (wrong UNKNOWN_NAME c.in-Struct.of.place) >>= λ n. in_turn (λ f. field_value_in f (scope_of c.args.self.now)) xs >>= struct_in c.args.self.now.design n c.in-Struct.of.place c.in-Struct.close) (sym c.as_slice-in-Struct.ensures)) c.structure.ensures
 
 pub expression-returns-in-Array : goal.expression-returns-in-Array
 expression-returns-in-Array t c =

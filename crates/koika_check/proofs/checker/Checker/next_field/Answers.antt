@@ -2,10 +2,10 @@ use Rattle.std.proofs.Common.{ℕ, List, [], ◌∷◌, ◌++◌, ◌∙◌, ap,
 use Rattle.std.proofs.lemmas.List.{length-map, map-append}
 use Rattle.kw_base.specs.Names.{number_of}
 use Rattle.koika_check.specs.Declarations.{names_of_fields}
-use Rattle.koika_check.specs.inner.Things.{position_of}
+use Rattle.koika_check.specs.inner.Things.{position_of, thing}
 use Rattle.koika_check.specs.Types.{type_of, width_of}
 use Rattle.koika_check.specs.declared.checked.CheckedField.{CheckedField}
-use Rattle.koika_check.specs.declared.things.Thing.TheVariants as thing
+use Rattle.koika_check.specs.declared.things.Kind.TheVariants as kind
 use Rattle.koika_check.proofs.Declaring.{known-stands}
 use Rattle.koika_check.proofs.Fields.{fields-push, grows-parts, parts-kept}
 use Rattle.koika_check.proofs.Growth.{grows-refl}
@@ -30,6 +30,6 @@ returns-clause-lists c name =
     let added = c.in_ok-add_part.ensures.answers (names_of_fields kept) c.requires.lists (length-map kept (λ (x : CheckedField). x.name) ∙ sym c.len.ensures) in
     let text = c.in_ok-text.ensures ∙ c.as_slice.ensures in
     let f : CheckedField = record { name = c.in_ok-text.text; of = c.in_ok-of.of.of } in
-    ap (λ q. position_of q (thing.Struct c.args.number) name) c.in_ok-of.ensures.grows.parts ∙ added.2.1 name
+    ap (λ q. position_of q (thing kind.Struct c.args.number) name) c.in_ok-of.ensures.grows.parts ∙ added.2.1 name
     ∙ ap (λ (n : List ℕ). number_of (names_of_fields kept ++ n ∷ []) name) (sym text)
     ∙ ap (λ (ns : List (List ℕ)). number_of ns name) (sym (map-append (λ (x : CheckedField). x.name) kept (f ∷ []))) ∙ ap (λ (fs : List CheckedField). number_of (names_of_fields fs) name) (sym c.in_ok-push.ensures.ok)
