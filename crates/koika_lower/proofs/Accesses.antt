@@ -1,5 +1,5 @@
 -- Tables, host functions, reads and writes are lowered.
-use Rattle.std.proofs.Common.{◌≡◌, ℕ, ◌<◌, ◌⊎◌, List, [], ◌∷◌, ◌++◌, length, Option, Some, None, option_map, slice_get, false, refl, ap, sym, subst, ◌∙◌}
+use Rattle.std.proofs.Common.{◌≡◌, ℕ, ◌<◌, List, [], ◌∷◌, ◌++◌, length, Option, Some, None, option_map, slice_get, false, refl, ap, sym, subst, ◌∙◌}
 use Rattle.std.specs.Prelude.{◌^◌}
 use Rattle.std.proofs.lemmas.Option.{slice_get-map}
 use Rattle.kw_bits.specs.BitVector.{BitVector}
@@ -34,7 +34,7 @@ use Rattle.koika_lower.proofs.Widths.{width-bits}
 
 module _ (d : Checked) (n depth : ℕ) (names : List Bound) (types : List ValueType) where
   pub table-lowers : (number : ℕ) (ts : List ValueType) (of : Option ValueType) (senses : List Sense) (operands init : List Lowered) (last l : Lowered) →
-      (operands ≡ init ++ last ∷ []) ⊎ (operands ≡ []) → IsAskedTable d number last l → IsApplied d n depth names types (operation.Table number) ts of senses operands →
+      operands ≡ init ++ last ∷ [] → IsAskedTable d number last l → IsApplied d n depth names types (operation.Table number) ts of senses operands →
       Lowers d n depth names types of (apply_sense (operation.Table number) senses) l
   table-lowers number [] of senses operands init last l e h given = absurd given.applies
   table-lowers number (t ∷ u ∷ ts) of senses operands init last l e h given = absurd given.applies
@@ -72,7 +72,7 @@ module _ (d : Checked) (n depth : ℕ) (names : List Bound) (types : List ValueT
   sim-port regs w m h events fit = let p = h events fit in (refl, p.0, port_ends regs w (m events).ending p.1)
 
   pub write-lowers : (port register : ℕ) (ts : List ValueType) (of : Option ValueType) (senses : List Sense) (operands init : List Lowered) (last l : Lowered) →
-      (operands ≡ init ++ last ∷ []) ⊎ (operands ≡ []) → IsWritten port register last l → IsApplied d n depth names types (operation.Write port register) ts of senses operands →
+      operands ≡ init ++ last ∷ [] → IsWritten port register last l → IsApplied d n depth names types (operation.Write port register) ts of senses operands →
       Lowers d n depth names types of (apply_sense (operation.Write port register) senses) l
   write-lowers port register [] of senses operands init last l e h given = absurd given.applies
   write-lowers port register (t ∷ u ∷ ts) of senses operands init last l e h given = absurd given.applies

@@ -9,7 +9,7 @@ use Rattle.typed_core.specs.Evaluation.{Value as Reached, Evaluation, Ports, uni
 use Rattle.typed_core.specs.declared.action.Action.TheVariants as action
 use Rattle.typed_core.specs.declared.outcome.Stopped.{Stopped}
 use Rattle.koika_check.specs.Meaning.{RuleSetting, bodies_behind, input_as, meaning, typed_step, unpacked}
-use Rattle.koika_check.specs.Typing.{HasType, IsInput, IsOf, IsType, IsTypedDesign}
+use Rattle.koika_check.specs.Typing.{HasType, IsInput, IsTypedDesign}
 use Rattle.koika_check.specs.declared.checked.Checked.{Checked}
 use Rattle.koika_check.specs.declared.checked.CheckedFunction.{CheckedFunction}
 use Rattle.koika_check.specs.declared.checked.Input.{Input}
@@ -50,7 +50,7 @@ module _ (d : Checked) (n depth : ℕ) (names : List Bound) (types : List ValueT
 
   module _ (design : IsTypedDesign d) where
     pub constant-lowers : (v : Value) (of : Option ValueType) (l : Lowered) →
-        ((c : Checked) (t : ValueType) → IsTypedDesign c → IsType c t → IsOf c v t → l ≡ record { action = action.Const (packed v); width = (packed v).width }) →
+        l ≡ record { action = action.Const (packed v); width = (packed v).width } →
         HasType d n (typed.Constant v) types of → Lowers d n depth names types of (λ s. meaning s (typed.Constant v)) l
     constant-lowers v of l made h =
         let it = open-HasType d n (typed.Constant v) (opened.Constant v) (typed.rolls-Constant v) types of h in
@@ -58,7 +58,7 @@ module _ (d : Checked) (n depth : ℕ) (names : List Bound) (types : List ValueT
         let stands = constant-stands d design t v it.2 it.1 in
         lowers-sense of (λ s. typed_step s (opened.Constant v)) (λ s. meaning s (typed.Constant v)) l (λ s. sym (meaning-Constant s v))
         (subst (λ (o : Option ValueType). Lowers d n depth names types o (λ s. typed_step s (opened.Constant v)) l) (sym it.3)
-        (subst (λ (x : Lowered). Lowers d n depth names types (Some t) (λ s. typed_step s (opened.Constant v)) x) (sym (made d t design it.2 it.1))
+        (subst (λ (x : Lowered). Lowers d n depth names types (Some t) (λ s. typed_step s (opened.Constant v)) x) (sym made)
         (record {
           valid = it.2;
           width = stands.2.1;

@@ -28,6 +28,17 @@ all-bound d index ts names all past e = ap (λ (l : List ValueType). parameter_n
     none (suc k) [] h = refl
     none (suc k) (x ∷ l) h = none k l (omega arith)
 
+-- where its parameters are bound, a body's names are of their types
+pub body-names : (d : Checked) (number index : ℕ) (f : CheckedFunction) (names : List Bound) → IsFunction d number f → index ≤ length f.parameters → length f.parameters ≤ index →
+    parameter_names d index (drop index f.parameters) names ≡ parameter_names d 0 f.parameters [] → AreNames d index names (reverse f.parameters)
+body-names d number index f names is within past bound =
+    let all = all-bound d index f.parameters names (parameter_names d 0 f.parameters []) past bound in
+    let end : index ≡ length f.parameters = omega arith in
+    let are : AreNames d (length f.parameters) (parameter_names d 0 f.parameters []) (reverse f.parameters) =
+    subst (λ ts. AreNames d (length f.parameters) (parameter_names d 0 f.parameters []) ts) (onto-reverse f.parameters)
+    (subst (λ k. AreNames d k (parameter_names d 0 f.parameters []) (onto f.parameters [])) (omega arith) (params-are d 0 f.parameters [] [] tt is.parameters)) in
+    subst (λ (bs : List Bound). AreNames d index bs (reverse f.parameters)) (sym all) (subst (λ k. AreNames d k (parameter_names d 0 f.parameters []) (reverse f.parameters)) (sym end) are)
+
 -- a body whose parameters are bound
 pub body-lowers : (d : Checked) (number index : ℕ) (f : CheckedFunction) (names : List Bound) (l : Lowered) → IsFunction d number f → index ≤ length f.parameters → length f.parameters ≤ index →
     parameter_names d index (drop index f.parameters) names ≡ parameter_names d 0 f.parameters [] →
@@ -36,14 +47,9 @@ pub body-lowers : (d : Checked) (number index : ℕ) (f : CheckedFunction) (name
 body-lowers d number index f names l is within past bound lowers =
     let all = all-bound d index f.parameters names (parameter_names d 0 f.parameters []) past bound in
     let end : index ≡ length f.parameters = omega arith in
-    let are : AreNames d (length f.parameters) (parameter_names d 0 f.parameters []) (reverse f.parameters) =
-    subst (λ ts. AreNames d (length f.parameters) (parameter_names d 0 f.parameters []) ts) (onto-reverse f.parameters)
-    (subst (λ k. AreNames d k (parameter_names d 0 f.parameters []) (onto f.parameters [])) (omega arith) (params-are d 0 f.parameters [] [] tt is.parameters)) in
     subst (λ (bs : List Bound). Lowers d number (length f.parameters) bs (reverse f.parameters) f.result (λ s. meaning s f.body) l) all
     (subst (λ k. Lowers d number k names (reverse f.parameters) f.result (λ s. meaning s f.body) l) end
-    (lowers (reverse f.parameters) f.result
-    (subst (λ (bs : List Bound). AreNames d index bs (reverse f.parameters)) (sym all) (subst (λ k. AreNames d k (parameter_names d 0 f.parameters []) (reverse f.parameters)) (sym end) are))
-    is.body))
+    (lowers (reverse f.parameters) f.result (body-names d number index f names is within past bound) is.body))
 
 -- the next parameter is bound
 pub bind-next : (d : Checked) (index next : ℕ) (ts : List ValueType) (t : ValueType) (names all : List Bound) (width : ℕ) → index < length ts → t ≡ get_or ts index t → width ≡ width_of d t → next ≡ index + 1 →

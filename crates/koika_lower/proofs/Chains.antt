@@ -134,13 +134,6 @@ chain-one operands (x ∷ init) operators last eo ei = record {
     two_types d t [] of (y ∷ init) are chains = absurd are.1
     two_types d t (u ∷ types) of init are chains = absurd chains
 
--- no operand
-pub chain-none : (operands : List Lowered) (operators : List BinaryOperator) (l : Lowered) → operands ≡ [] → IsChain operators operands l
-chain-none operands operators l e = record {
-  means = λ count env ports locals. absurd (omega (arith, count, ap length e));
-  typed = λ d t types of are chains. absurd (subst (λ ls. AreOperands d (t ∷ types) ls) e are);
-}
-
 -- operands one below the other, one more at the end
 replicate-push : {X : Type 0} (n : ℕ) (x : X) → replicate (suc n) x ≡ replicate n x ++ x ∷ []
 replicate-push zero x = refl

@@ -56,9 +56,3 @@ chosen-push conditions bodies cinit binit condition body behind l a ec eb is h =
                 rest.1 d widths c.0 b.0 (is.typed d widths width c.1 b.1 last),
           );
     }
-
--- there is no body for the last condition
-pub chosen-short : (conditions bodies cinit : List Lowered) (condition behind l : Lowered) → conditions ≡ cinit ++ condition ∷ [] → bodies ≡ [] → IsChosen conditions bodies behind l
-chosen-short conditions bodies cinit condition behind l ec eb =
-    let short : length conditions ≡ length bodies → ⊥ = λ count. omega (arith, count, ap length ec, ap length eb, length-append cinit (condition ∷ [])) in
-    record { means = λ count env ports locals. absurd (short count); typed = λ count. absurd (short count) }

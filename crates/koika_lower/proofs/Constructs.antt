@@ -71,20 +71,19 @@ last_one l last [] e = cc
 last_one l last (x ∷ init) e = absurd (omega (arith, ap length e, length-append init (last ∷ [])))
 
 pub single : (d : Checked) (n depth : ℕ) (rising : Bool) (names : List Bound) (types : List ValueType) (t : ValueType) (senses : List Sense) (operands init : List Lowered) (last : Lowered) →
-    (operands ≡ init ++ last ∷ []) ⊎ (operands ≡ []) → LowersAll d n depth rising names types (Some t ∷ []) senses operands → Single d n depth names types t senses last
+    operands ≡ init ++ last ∷ [] → LowersAll d n depth rising names types (Some t ∷ []) senses operands → Single d n depth names types t senses last
 single d n depth rising names types t [] [] init last e all = absurd all
 single d n depth rising names types t [] (l ∷ ls) init last e all = absurd all
 single d n depth rising names types t (m ∷ ms) [] init last e all = absurd all
-single d n depth rising names types t (m ∷ []) (l ∷ []) init last (inl e) all =
+single d n depth rising names types t (m ∷ []) (l ∷ []) init last e all =
     record { sense = m; are = refl; lowers = subst (λ (x : Lowered). Lowers d n depth names types (Some t) m x) (last_one l last init e) all.0 }
-single d n depth rising names types t (m ∷ []) (l ∷ []) init last (inr e) all = absurd (omega (arith, ap length e))
 single d n depth rising names types t (m ∷ []) (l ∷ k ∷ ls) init last e all = absurd all.1
 single d n depth rising names types t (m ∷ p ∷ ms) (l ∷ []) init last e all = absurd all.1
 single d n depth rising names types t (m ∷ p ∷ ms) (l ∷ k ∷ ls) init last e all = absurd all.1
 
 -- an operation on one operand, whose action goes on with the operand's bits
 module _ (d : Checked) (n depth : ℕ) (names : List Bound) (types : List ValueType) (o : Operation) (t : ValueType) (of : Option ValueType) (senses : List Sense)
-    (operands init : List Lowered) (last l : Lowered) (e : (operands ≡ init ++ last ∷ []) ⊎ (operands ≡ [])) (rising : Bool)
+    (operands init : List Lowered) (last l : Lowered) (e : operands ≡ init ++ last ∷ []) (rising : Bool)
     (all : LowersAll d n depth rising names types (Some t ∷ []) senses operands) (valid : IfSome of (IsType d)) where
   one : Single d n depth names types t senses last
   one = single d n depth rising names types t senses operands init last e all
@@ -175,7 +174,7 @@ module _ (d : Checked) (n depth : ℕ) (names : List Bound) (types : List ValueT
   retyped o senses l of of' e h = subst (λ (r : Option ValueType). Lowers d n depth names types r (apply_sense o senses) l) (sym e) h
 
   pub unary-lowers : (operators : List UnaryOperator) (ts : List ValueType) (of : Option ValueType) (senses : List Sense) (operands init : List Lowered) (last l : Lowered) →
-      (operands ≡ init ++ last ∷ []) ⊎ (operands ≡ []) → IsPrefixed operators last l → IsApplied d n depth names types (operation.Unary operators) ts of senses operands →
+      operands ≡ init ++ last ∷ [] → IsPrefixed operators last l → IsApplied d n depth names types (operation.Unary operators) ts of senses operands →
       Lowers d n depth names types of (apply_sense (operation.Unary operators) senses) l
   unary-lowers operators [] of senses operands init last l e h given = absurd given.applies
   unary-lowers operators (t ∷ u ∷ ts) of senses operands init last l e h given = absurd given.applies
@@ -191,7 +190,7 @@ module _ (d : Checked) (n depth : ℕ) (names : List Bound) (types : List ValueT
       (prefixed-width operators x it.0 (bits-width d t it.0 x it.1 is.2))))
 
   pub pack-lowers : (ts : List ValueType) (of : Option ValueType) (senses : List Sense) (operands init : List Lowered) (last : Lowered) →
-      (operands ≡ init ++ last ∷ []) ⊎ (operands ≡ []) → IsApplied d n depth names types operation.Pack ts of senses operands →
+      operands ≡ init ++ last ∷ [] → IsApplied d n depth names types operation.Pack ts of senses operands →
       Lowers d n depth names types of (apply_sense operation.Pack senses) last
   pack-lowers [] of senses operands init last e given = absurd given.applies
   pack-lowers (t ∷ u ∷ ts) of senses operands init last e given = absurd given.applies
@@ -203,7 +202,7 @@ module _ (d : Checked) (n depth : ℕ) (names : List Bound) (types : List ValueT
       (λ inputs ports v x is. bits-come d regs (width_of d t) x (packed v) is.1 is.2))
 
   pub unpack-lowers : (to : ValueType) (ts : List ValueType) (of : Option ValueType) (senses : List Sense) (operands init : List Lowered) (last : Lowered) →
-      (operands ≡ init ++ last ∷ []) ⊎ (operands ≡ []) → IsApplied d n depth names types (operation.Unpack to) ts of senses operands →
+      operands ≡ init ++ last ∷ [] → IsApplied d n depth names types (operation.Unpack to) ts of senses operands →
       Lowers d n depth names types of (apply_sense (operation.Unpack to) senses) last
   unpack-lowers to [] of senses operands init last e given = absurd given.applies
   unpack-lowers to (t ∷ u ∷ ts) of senses operands init last e given = absurd given.applies
@@ -218,7 +217,7 @@ module _ (d : Checked) (n depth : ℕ) (names : List Bound) (types : List ValueT
       (unpacked-stands d given.design to x it.0 (bits-width d t (width_of d to) x it.1 is.2))))))
 
   pub extend-lowers : (extension : Extension) (to : ℕ) (ts : List ValueType) (of : Option ValueType) (senses : List Sense) (operands init : List Lowered) (last l : Lowered) →
-      (operands ≡ init ++ last ∷ []) ⊎ (operands ≡ []) → IsExtended extension to last l → IsApplied d n depth names types (operation.Extend extension to) ts of senses operands →
+      operands ≡ init ++ last ∷ [] → IsExtended extension to last l → IsApplied d n depth names types (operation.Extend extension to) ts of senses operands →
       Lowers d n depth names types of (apply_sense (operation.Extend extension to) senses) l
   extend-lowers extension to [] of senses operands init last l e h given = absurd given.applies
   extend-lowers extension to (t ∷ u ∷ ts) of senses operands init last l e h given = absurd given.applies

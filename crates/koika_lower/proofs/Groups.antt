@@ -62,30 +62,30 @@ chains-bits (o ∷ []) t (u ∷ []) whole some c = let b = operates-bits o t u c
 chains-bits (o ∷ []) t (u ∷ w ∷ ts) whole some c = absurd c.2
 chains-bits (o ∷ p ∷ os) t (u ∷ ts) whole some c = chains-bits (p ∷ os) c.0 ts whole (omega arith) c.2
 
-chains-count : (os : List BinaryOperator) (t : ValueType) (ts : List ValueType) (whole : ValueType) → Chains os t ts whole → length ts ≡ length os
+pub chains-count : (os : List BinaryOperator) (t : ValueType) (ts : List ValueType) (whole : ValueType) → Chains os t ts whole → length ts ≡ length os
 chains-count [] t [] whole c = refl
 chains-count [] t (u ∷ ts) whole c = absurd c
 chains-count (o ∷ os) t [] whole c = absurd c
 chains-count (o ∷ os) t (u ∷ ts) whole c = ap suc (chains-count os c.0 ts whole c.2)
 
 module _ (d : Checked) (n depth : ℕ) (names : List Bound) (types : List ValueType) where
-  pub chain-lowers : (os : List BinaryOperator) (ts : List ValueType) (of : Option ValueType) (senses : List Sense) (operands : List Lowered) (l : Lowered) → IsChain os operands l →
-      IsApplied d n depth names types (operation.Chain os) ts of senses operands → Lowers d n depth names types of (apply_sense (operation.Chain os) senses) l
-  chain-lowers os [] of senses operands l h given = absurd given.applies
-  chain-lowers os (t ∷ ts) of senses operands l h given =
+  pub chain-lowers : (os : List BinaryOperator) (wide : ℕ) (ts : List ValueType) (of : Option ValueType) (senses : List Sense) (operands : List Lowered) (l : Lowered) → IsChain os operands l →
+      IsApplied d n depth names types (operation.Chain os wide) ts of senses operands → Lowers d n depth names types of (apply_sense (operation.Chain os wide) senses) l
+  chain-lowers os wide [] of senses operands l h given = absurd given.applies
+  chain-lowers os wide (t ∷ ts) of senses operands l h given =
       let it = given.applies in
       let c = h.typed d t ts it.1 (are-operands d n depth names types (t ∷ ts) senses operands given.all) it.2 in
       let b = chains-bits os t ts it.1 it.0 it.2 in
       let count : length operands ≡ suc (length os) = operands-count d n depth names types (t ∷ ts) senses operands given.all ∙ ap suc (chains-count os t ts it.1 it.2) in
-      subst (λ (o : Option ValueType). Lowers d n depth names types o (apply_sense (operation.Chain os) senses) l) (sym it.3)
+      subst (λ (o : Option ValueType). Lowers d n depth names types o (apply_sense (operation.Chain os wide) senses) l) (sym it.3)
       (record {
         valid = c.1;
         width = c.0;
         typed = λ widths f. c.2 (declared_by d) widths (operands-typed d n depth names types (t ∷ ts) senses operands widths given.all f);
         means = λ inputs ports values locals w p st.
-            sim-core (register_widths d) (Stands d (Some it.1)) (apply_sense (operation.Chain os) senses (world d n inputs ports) values) (evaluate (environment d inputs) ports l.action locals)
+            sim-core (register_widths d) (Stands d (Some it.1)) (apply_sense (operation.Chain os wide) senses (world d n inputs ports) values) (evaluate (environment d inputs) ports l.action locals)
             (chain_part os (core d n depth names types inputs ports values locals w p st operands) locals) (h.means count (environment d inputs) ports locals)
-            (sim-chain d n depth names types inputs ports values locals w p st (Stands d (Some it.1)) os t ts it.1 senses operands (apply (world d n inputs ports) (operation.Chain os)) given.all it.2
+            (sim-chain d n depth names types inputs ports values locals w p st (Stands d (Some it.1)) os t ts it.1 senses operands (apply (world d n inputs ports) (operation.Chain os wide)) given.all it.2
             (λ v vs x y is e hy.
             subst (λ (r : ValueType). Simulates (register_widths d) (Stands d (Some r)) (comes_to (Some (value.Number (chained os (packed v) vs)))) (comes_to y)) (sym b.is)
             (bits-come d (register_widths d) b.width y (chained os (packed v) vs) (sym e) (bits-width d it.1 b.width y b.is hy))));

@@ -207,9 +207,9 @@ module _ (d : Checked) (is : IsTypedDesign d) (n : ℕ) (inputs : List BitVector
   applies-fine (operation.Unary operators) (t ∷ u ∷ ts) of vs have h = absurd h
   applies-fine (operation.Unary operators) (t ∷ []) of vs have h = one (Fine (operation.Unary operators) of) t vs have
       (λ v has. number-comes of h.0 (prefixed operators (packed v)) (h.2 ∙ ap Some h.1) (prefixed-width operators (packed v) h.0 (own_bits v t h.0 has h.1)))
-  applies-fine (operation.Chain operators) [] of vs have h = absurd h
-  applies-fine (operation.Chain operators) (t ∷ ts) of [] have h = absurd have
-  applies-fine (operation.Chain operators) (t ∷ ts) of (v ∷ vs) have h =
+  applies-fine (operation.Chain operators width) [] of vs have h = absurd h
+  applies-fine (operation.Chain operators width) (t ∷ ts) of [] have h = absurd have
+  applies-fine (operation.Chain operators width) (t ∷ ts) of (v ∷ vs) have h =
       let there = chain-there d is operators t ts h.1 (packed v) vs have.1 h.2 (bits-have d is v t have.0) in
       let b = chains-bits operators t ts h.1 h.0 h.2 in
       let x : BitVector = chained operators (packed v) vs in

@@ -95,12 +95,10 @@ length-same zero = refl
 length-same (suc k) = ap suc (length-same k)
 
 -- two operands that are taken from the end
-both_last : (a b left right : Lowered) (before init : List Lowered) → (a ∷ b ∷ [] ≡ before ++ right ∷ []) ⊎ (a ∷ b ∷ [] ≡ []) → (before ≡ init ++ left ∷ []) ⊎ (before ≡ []) → (a ≡ left) × (b ≡ right)
-both_last a b left right before init (inr e) f = absurd (omega (arith, ap length e))
-both_last a b left right [] init (inl e) f = absurd (omega (arith, ap length e))
-both_last a b left right (x ∷ []) init (inl e) (inl f) = let first : a ≡ x = cc in let second : b ≡ right = cc in (first ∙ last_one x left init f, second)
-both_last a b left right (x ∷ []) init (inl e) (inr f) = absurd (omega (arith, ap length f))
-both_last a b left right (x ∷ y ∷ before) init (inl e) f = absurd (omega (arith, ap length e, length-append (x ∷ y ∷ before) (right ∷ [])))
+both_last : (a b left right : Lowered) (before init : List Lowered) → a ∷ b ∷ [] ≡ before ++ right ∷ [] → before ≡ init ++ left ∷ [] → (a ≡ left) × (b ≡ right)
+both_last a b left right [] init e f = absurd (omega (arith, ap length e))
+both_last a b left right (x ∷ []) init e f = let first : a ≡ x = cc in let second : b ≡ right = cc in (first ∙ last_one x left init f, second)
+both_last a b left right (x ∷ y ∷ before) init e f = absurd (omega (arith, ap length e, length-append (x ∷ y ∷ before) (right ∷ [])))
 
 module _ (d : Checked) (n depth : ℕ) (names : List Bound) (types : List ValueType) where
   pub host-lowers : (number : ℕ) (ts : List ValueType) (of : Option ValueType) (senses : List Sense) (operands : List Lowered) (j l : Lowered) →
@@ -160,7 +158,7 @@ module _ (d : Checked) (n depth : ℕ) (names : List Bound) (types : List ValueT
           })
 
   pub compare-lowers : (comparison : SignedComparison) (ts : List ValueType) (of : Option ValueType) (senses : List Sense) (operands before init : List Lowered) (left right l : Lowered) (form : Form) →
-      (operands ≡ before ++ right ∷ []) ⊎ (operands ≡ []) → (before ≡ init ++ left ∷ []) ⊎ (before ≡ []) →
+      operands ≡ before ++ right ∷ [] → before ≡ init ++ left ∷ [] →
       ((x y : BitVector) → form_value form x y ≡ comparison_value comparison x y) → FormFits Compares form → IsFormed form left right l →
       IsApplied d n depth names types (operation.Compare comparison) ts of senses operands → Lowers d n depth names types of (apply_sense (operation.Compare comparison) senses) l
   compare-lowers comparison [] of senses operands before init left right l form e f value fits h given = absurd given.applies
@@ -168,7 +166,7 @@ module _ (d : Checked) (n depth : ℕ) (names : List Bound) (types : List ValueT
   compare-lowers comparison (t ∷ u ∷ w ∷ ts) of senses operands before init left right l form e f value fits h given = absurd given.applies
   compare-lowers comparison (t ∷ u ∷ []) of senses operands before init left right l form e f value fits h given = by_operands senses operands e given.all
     where
-      by_operands : (senses : List Sense) (operands : List Lowered) → (operands ≡ before ++ right ∷ []) ⊎ (operands ≡ []) → LowersAll d n depth false names types (Some t ∷ Some u ∷ []) senses operands →
+      by_operands : (senses : List Sense) (operands : List Lowered) → operands ≡ before ++ right ∷ [] → LowersAll d n depth false names types (Some t ∷ Some u ∷ []) senses operands →
           Lowers d n depth names types of (apply_sense (operation.Compare comparison) senses) l
       by_operands [] operands e all = absurd all
       by_operands (m ∷ ms) [] e all = absurd all

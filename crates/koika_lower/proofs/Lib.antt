@@ -4,6 +4,7 @@ pub mod Arms
 pub mod Atoms
 pub mod Bindings
 pub mod Bodies
+pub mod CallCosts
 pub mod Calls
 pub mod ChainValues
 pub mod Chains
@@ -38,4 +39,5 @@ pub mod TypeWidths
 pub mod TypedNumbers
 pub mod Unpacking
 pub mod Values
+pub mod WellTyped
 pub mod Widths

@@ -19,7 +19,7 @@ use Rattle.koika_check.specs.declared.typed.ValueType.{ValueType}
 use Rattle.koika_lower.specs.inner.Actions.{IsLet}
 use Rattle.koika_lower.specs.inner.Applied.{IsAfter, IsChoice, idle}
 use Rattle.koika_lower.specs.inner.Expressions.{AreLowered, AreLoweredSteps, block_sense, sense_of}
-use Rattle.koika_lower.specs.inner.Simulation.{AreNames, IsApplied, IsCallee, Lowers, LowersAll, Sense, apply_sense, rises}
+use Rattle.koika_lower.specs.inner.Simulation.{AreNames, IsApplied, Lowers, LowersAll, Sense, apply_sense, rises}
 use Rattle.koika_lower.specs.declared.lowered.Bound.{Bound}
 use Rattle.koika_lower.specs.declared.lowered.Lowered.{Lowered}
 use Rattle.koika_lower.proofs.Arms.{if-lowers, if_sense}
@@ -35,14 +35,14 @@ senses-in : (s : RuleSetting Stopped) (es : List Typed) → map (λ (m : Sense).
 senses-in s [] = refl
 senses-in s (e ∷ es) = ap (λ (ms : List (Meaning Stopped)). meaning s e ∷ ms) (senses-in s es)
 
-some-pairs : (d : Checked) (n : ℕ) (types : List ValueType) (es : List Typed) (ts : List ValueType) → Pairwise (λ e t. HasType d n e types (Some t)) es ts →
+pub some-pairs : (d : Checked) (n : ℕ) (types : List ValueType) (es : List Typed) (ts : List ValueType) → Pairwise (λ e t. HasType d n e types (Some t)) es ts →
     Pairwise (λ e of. HasType d n e types of) es (map Some ts)
 some-pairs d n types [] [] h = tt
 some-pairs d n types [] (t ∷ ts) h = absurd h
 some-pairs d n types (e ∷ es) [] h = absurd h
 some-pairs d n types (e ∷ es) (t ∷ ts) h = (h.0, some-pairs d n types es ts h.1)
 
-lowers-count : (d : Checked) (n depth : ℕ) (rising : Bool) (names : List Bound) (types : List ValueType) (ofs : List (Option ValueType)) (senses : List Sense) (ls : List Lowered) →
+pub lowers-count : (d : Checked) (n depth : ℕ) (rising : Bool) (names : List Bound) (types : List ValueType) (ofs : List (Option ValueType)) (senses : List Sense) (ls : List Lowered) →
     LowersAll d n depth rising names types ofs senses ls → length ls ≡ length senses
 lowers-count d n depth rising names types [] [] [] h = refl
 lowers-count d n depth rising names types [] [] (l ∷ ls) h = absurd h
@@ -59,16 +59,15 @@ module _ (d : Checked) (n depth : ℕ) (names : List Bound) where
 
   -- ---- expressions
 
-  pub apply-lowered : (o : Operation) (operands : List Typed) (rising : Bool) (ls : List Lowered) (body l : Lowered) → rising ≡ rises o → AreLowered d n depth rising names operands ls →
-      (IsTypedDesign d → IsCallee d n o body) →
-      ((functions at : ℕ) (bound : List Bound) (types ts : List ValueType) (of : Option ValueType) (senses : List Sense) → IsCallee d functions o body →
-      IsApplied d functions at bound types o ts of senses ls → Lowers d functions at bound types of (apply_sense o senses) l) → IsLowered (typed.Apply o operands) l
-  apply-lowered o operands rising ls body l same all callee made types of design are h =
+  pub apply-lowered : (o : Operation) (operands : List Typed) (rising : Bool) (ls : List Lowered) (l : Lowered) → rising ≡ rises o → AreLowered d n depth rising names operands ls →
+      ((types ts : List ValueType) (of : Option ValueType) (senses : List Sense) →
+      IsApplied d n depth names types o ts of senses ls → Lowers d n depth names types of (apply_sense o senses) l) → IsLowered (typed.Apply o operands) l
+  apply-lowered o operands rising ls l same all made types of design are h =
       let it = open-HasType d n (typed.Apply o operands) (opened.Apply o operands) (typed.rolls-Apply o operands) types of h in
       let ts : List ValueType = it.0 in
       lowers-sense d n depth names types of (apply_sense o (map sense_of operands)) (λ s. meaning s (typed.Apply o operands)) l
       (λ s. (λ i values. in_turn (senses-in s operands i) values >>= apply s o) ∙ sym (meaning-Apply s o operands))
-      (made n depth names types ts of (map sense_of operands) (callee design) (record {
+      (made types ts of (map sense_of operands) (record {
         design = design;
         are = are;
         all = subst (λ (b : Bool). LowersAll d n depth b names types (map Some ts) (map sense_of operands) ls) same

@@ -58,7 +58,7 @@ update-value d design n inputs ports s t u body locals width e valid r is (v ∷
 
 module _ (d : Checked) (n depth : ℕ) (names : List Bound) (types : List ValueType) where
   pub select-lowers : (selections : List Selection) (ts : List ValueType) (of : Option ValueType) (senses : List Sense) (operands init : List Lowered) (last l : Lowered) →
-      (operands ≡ init ++ last ∷ []) ⊎ (operands ≡ []) → (AllFit selections last.width → IsSelected selections last l) → IsApplied d n depth names types (operation.Select selections) ts of senses operands →
+      operands ≡ init ++ last ∷ [] → (AllFit selections last.width → IsSelected selections last l) → IsApplied d n depth names types (operation.Select selections) ts of senses operands →
       Lowers d n depth names types of (apply_sense (operation.Select selections) senses) l
   select-lowers selections [] of senses operands init last l e h given = absurd given.applies
   select-lowers selections (t ∷ u ∷ ts) of senses operands init last l e h given = absurd given.applies

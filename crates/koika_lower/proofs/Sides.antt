@@ -29,7 +29,8 @@ pub behind-next : (rising : Bool) (depth count : ℕ) → depth_behind rising de
 behind-next true depth count = omega arith
 behind-next false depth count = refl
 
-names-behind : (d : Checked) (rising : Bool) (depth count : ℕ) (names : List Bound) (types : List ValueType) → AreNames d depth names types → AreNames d (depth_behind rising depth count) names types
+pub names-behind : (d : Checked) (rising : Bool) (depth count : ℕ) (names : List Bound) (types : List ValueType) → AreNames d depth names types → AreNames d
+    (depth_behind rising depth count) names types
 names-behind d false depth count names types are = are
 names-behind d true depth zero names types are = subst (λ k. AreNames d k names types) (omega arith) are
 names-behind d true depth (suc count) names types are =

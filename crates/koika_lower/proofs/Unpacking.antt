@@ -3,7 +3,6 @@ use Rattle.std.proofs.Common.{◌≡◌, ℕ, ◌+◌, ◌≤◌, List, [], ◌�
 use Rattle.std.specs.List.{AllByRecursion}
 use Rattle.kw_bits.specs.BitVector.{BitVector}
 use Rattle.kw_bits.specs.Laws.{HasWidth}
-use Rattle.kw_bits.specs.Operators.{concat}
 use Rattle.koika_types.specs.Values.{packed, packed_part, stacked, stacked_up}
 use Rattle.koika_types.specs.declared.value.Value.{Value, out-Value, roll-out-Value}
 use Rattle.koika_types.specs.declared.value.Value.TheFolds.{ind-Value, map-Value}

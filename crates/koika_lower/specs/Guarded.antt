@@ -144,7 +144,7 @@ with_register s port register next = if nat_lt port PORTS then with_some next (s
 
 abbrev pub guarded_apply : RuleSetting Cause → Operation → List Value → Evaluation (Option Value) Cause
 guarded_apply s (operation.Unary operators) (v ∷ []) = gives_number (prefixed operators (packed v))
-guarded_apply s (operation.Chain operators) (first ∷ rest) = with_some gives_number (chained_if operators (packed first) rest)
+guarded_apply s (operation.Chain operators width) (first ∷ rest) = with_some gives_number (chained_if operators (packed first) rest)
 guarded_apply s (operation.Select selections) (v ∷ []) = with_some gives (all_at (Some v) selections)
 guarded_apply s (operation.Update one) (v ∷ new ∷ []) = with_some (λ _. gives (updated v one new)) (replaced_at v one)
 guarded_apply s (operation.Struct number) values =

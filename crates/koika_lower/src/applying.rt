@@ -1,11 +1,11 @@
 //! Lowering: operations on operands, and calls.
 
-ghost use Rattle.std.specs.Prelude.{◌≡◌, ◌∷◌, ◌*◌, ◌≤◌, ℕ, List, Option, length, IfOk};
+ghost use Rattle.std.specs.Prelude.{◌≡◌, ◌∷◌, ◌*◌, ◌<◌, ◌≤◌, ℕ, List, Option, length, IfOk};
 ghost use Rattle.kw_bits.specs.BitVector.{BitVector};
 ghost use Rattle.koika_check.specs.Meaning.{prefix_value};
-ghost use Rattle.koika_lower.specs.inner.Applied.{IsArray, IsAskedHost, IsAskedTable, IsCalled, IsCompared, IsExtended, IsPrefixed, IsUpdated, IsWritten};
+ghost use Rattle.koika_lower.specs.inner.Applied.{CanBeApplied, IsArray, IsAskedHost, IsAskedTable, IsCalled, IsCompared, IsExtended, IsPrefixed, IsUpdated, IsWritten};
 ghost use Rattle.koika_check.specs.declared.typed.ValueType.{ValueType};
-ghost use Rattle.koika_lower.specs.inner.Simulation.{IsApplied, IsCallee, Lowers, Sense, apply_sense, rises};
+ghost use Rattle.koika_lower.specs.inner.Simulation.{IsApplied, Lowers, Sense, apply_sense, rises};
 ghost use Rattle.koika_lower.specs.declared.lowered.Bound.{Bound};
 ghost use Rattle.typed_core.specs.Evaluation.{apply_one};
 ghost use Rattle.typed_core.specs.Valid.{OneHasWidth};
@@ -32,16 +32,16 @@ pub(crate) fn binds_operands(operation: &Operation) -> bool
     )
 }
 
-/// An operation on operands. A call has the body of the function that it calls, any other operation leaves it.
+/// An operation on operands that is no call.
 pub(crate) fn applied(
     alloc: Global,
     design: &Checked,
     operation: &Operation,
-    body: Lowered,
     operands: Sequence<Lowered>,
 ) -> Result<Lowered, NoMemory>
+    requires { CanBeApplied design.now operation.now operands }
     ensures { IfOk result (λ l. (functions depth : ℕ) (names : List Bound) (types ts : List ValueType) (of : Option ValueType) (senses : List Sense)
-        → IsCallee design.now functions operation.now body → IsApplied design.now functions depth names types operation.now ts of senses operands
+        → IsApplied design.now functions depth names types operation.now ts of senses operands
         → Lowers design.now functions depth names types of (apply_sense operation.now senses) l) }
 {
     let mut operands = operands;
@@ -49,7 +49,7 @@ pub(crate) fn applied(
         Operation::Unary(operators) => {
             prefixed(alloc, operators.as_slice(), last_of(&mut operands))
         }
-        Operation::Chain(operators) => chained(alloc, operators.as_slice(), operands),
+        Operation::Chain { operators, .. } => chained(alloc, operators.as_slice(), operands),
         Operation::Select(selections) => {
             selected(alloc, selections.as_slice(), last_of(&mut operands))
         }
@@ -64,7 +64,7 @@ pub(crate) fn applied(
         Operation::Compare(comparison) => compared(alloc, *comparison, operands),
         Operation::Table(number) => asked_table(alloc, design, *number, last_of(&mut operands)),
         Operation::Host(number) => asked_host(alloc, design, *number, joined(alloc, operands)?),
-        Operation::Call(_) => called(alloc, body, operands),
+        Operation::Call(_) => unreachable!(),
         Operation::Read { port, register } => Ok(read(design, *port, *register)),
         Operation::Write { port, register } => {
             written(alloc, *port, *register, last_of(&mut operands))
@@ -113,6 +113,7 @@ fn updated(
     selection: Selection,
     operands: Sequence<Lowered>,
 ) -> Result<Lowered, NoMemory>
+    requires { 1 ≤ length operands }
     ensures { IfOk result (IsUpdated selection operands) }
 {
     let width = first_width(operands.as_slice());
@@ -125,12 +126,10 @@ fn updated(
 
 // The width of the first operand.
 fn first_width(operands: &[Lowered]) -> u32
+    requires { 1 ≤ length operands.now }
     ensures { (first : Lowered) (rest : List Lowered) → operands.now ≡ first ∷ rest → result ≡ first.width }
 {
-    match operands.first() {
-        Some(first) => first.width,
-        None => 0,
-    }
+    operands[0].width
 }
 
 // The width of that many values of a width.
@@ -149,6 +148,7 @@ fn count_of(items: &[Lowered]) -> u32
 
 // An array of its items.
 fn array(alloc: Global, items: Sequence<Lowered>) -> Result<Lowered, NoMemory>
+    requires { 1 ≤ length items }
     ensures { IfOk result (IsArray items) }
 {
     let count = count_of(items.as_slice());
@@ -191,6 +191,7 @@ fn compared(
     comparison: SignedComparison,
     operands: Sequence<Lowered>,
 ) -> Result<Lowered, NoMemory>
+    requires { length operands ≡ 2 }
     ensures { IfOk result (IsCompared comparison operands) }
 {
     let mut operands = operands;
@@ -206,12 +207,10 @@ fn asked_table(
     number: u32,
     operand: Lowered,
 ) -> Result<Lowered, NoMemory>
+    requires { number < length design.now.tables }
     ensures { IfOk result (IsAskedTable design.now number operand) }
 {
-    let width = match design.tables.as_slice().get(number as usize) {
-        Some(table) => table.spec.out_width,
-        None => 0,
-    };
+    let width = design.tables.as_slice()[number as usize].spec.out_width;
     let action = Action::Table(number, Box::new(alloc, operand.action)?);
     Ok(Lowered { action, width })
 }
@@ -223,18 +222,21 @@ fn asked_host(
     number: u32,
     input: Lowered,
 ) -> Result<Lowered, NoMemory>
+    requires { number < length design.now.hosts }
     ensures { IfOk result (IsAskedHost design.now number input) }
 {
-    let width = match design.hosts.as_slice().get(number as usize) {
-        Some(host) => host.spec.kind.out_width(host.spec.in_width),
-        None => 0,
-    };
+    let spec = design.hosts.as_slice()[number as usize].spec;
+    let width = spec.kind.out_width(spec.in_width);
     let action = Action::Host(number, Box::new(alloc, input.action)?);
     Ok(Lowered { action, width })
 }
 
-// The body of a function, with its arguments bound.
-fn called(alloc: Global, body: Lowered, arguments: Sequence<Lowered>) -> Result<Lowered, NoMemory>
+/// The body of a function, with its arguments bound.
+pub(crate) fn called(
+    alloc: Global,
+    body: Lowered,
+    arguments: Sequence<Lowered>,
+) -> Result<Lowered, NoMemory>
     ensures { IfOk result (IsCalled body arguments) }
 {
     Ok(Lowered {

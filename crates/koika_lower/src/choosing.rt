@@ -1,6 +1,6 @@
 //! Lowering: conditions with a body each, and one action after another.
 
-ghost use Rattle.std.specs.Prelude.{IfOk};
+ghost use Rattle.std.specs.Prelude.{◌≡◌, ◌+◌, ◌⊎◌, length, IfOk};
 ghost use Rattle.koika_lower.specs.inner.Applied.{IsAfter, IsChoice, IsChosen};
 
 use crate::joining::last_of;
@@ -15,15 +15,16 @@ pub(crate) fn chosen(
     conditions: Sequence<Lowered>,
     bodies: Sequence<Lowered>,
 ) -> Result<Lowered, NoMemory>
+    requires { (length bodies ≡ length conditions) ⊎ (length bodies ≡ length conditions + 1) }
     ensures { IfOk result (IsChoice conditions bodies) }
 {
     let mut bodies = bodies;
-    let last = if bodies.len() > conditions.len() {
-        last_of(&mut bodies)
+    if bodies.len() > conditions.len() {
+        let last = last_of(&mut bodies);
+        chosen_before(alloc, conditions, bodies, last)
     } else {
-        Lowered::unit()
-    };
-    chosen_before(alloc, conditions, bodies, last)
+        chosen_before(alloc, conditions, bodies, Lowered::unit())
+    }
 }
 
 // The body of the first condition that is 1, or else what comes after them all.
@@ -33,6 +34,7 @@ fn chosen_before(
     bodies: Sequence<Lowered>,
     behind: Lowered,
 ) -> Result<Lowered, NoMemory>
+    requires { length bodies ≡ length conditions }
     ensures { IfOk result (IsChosen conditions bodies behind) }
 {
     let mut conditions = conditions;

@@ -1,6 +1,6 @@
 //! Lowering: chains of operators.
 
-ghost use Rattle.std.specs.Prelude.{◌≡◌, ◌-◌, ◌++◌, ◌⊎◌, [], ◌∷◌, length, replicate, IfOk};
+ghost use Rattle.std.specs.Prelude.{◌≡◌, ◌+◌, ◌-◌, ◌≤◌, ◌++◌, [], ◌∷◌, length, replicate, IfOk};
 ghost use Rattle.koika_lower.specs.inner.Applied.{IsChain};
 ghost use Rattle.koika_syntax.specs.declared.operator.BinaryOperator.TheVariants as binary;
 
@@ -12,12 +12,12 @@ use std::alloc::Global;
 
 /// The last of some operands, which is taken away.
 pub(crate) fn last_of(operands: &mut Sequence<Lowered>) -> Lowered
-    ensures last { (operands.old ≡ operands.new ++ result ∷ []) ⊎ (operands.old ≡ []) }
-    ensures none { operands.old ≡ [] → operands.new ≡ [] }
+    requires { 1 ≤ length operands.old }
+    ensures { operands.old ≡ operands.new ++ result ∷ [] }
 {
     match operands.pop() {
         Some(last) => last,
-        None => Lowered::unit(),
+        None => unreachable!(),
     }
 }
 
@@ -27,6 +27,7 @@ pub(crate) fn chained(
     operators: &[BinaryOperator],
     operands: Sequence<Lowered>,
 ) -> Result<Lowered, NoMemory>
+    requires { length operands ≡ length operators.now + 1 }
     ensures { IfOk result (IsChain operators.now operands) }
 {
     let mut operands = operands;
@@ -42,6 +43,7 @@ pub(crate) fn chained(
 
 /// Operands one below the other, the first the most significant.
 pub(crate) fn joined(alloc: Global, operands: Sequence<Lowered>) -> Result<Lowered, NoMemory>
+    requires { 1 ≤ length operands }
     ensures { IfOk result (IsChain (replicate (length operands - 1) binary.Concat) operands) }
 {
     let mut operands = operands;

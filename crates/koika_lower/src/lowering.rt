@@ -7,7 +7,7 @@ ghost use Rattle.koika_lower.specs.inner.Rules.{AreRules};
 ghost use Rattle.typed_core.specs.Valid.{IsValid};
 
 use crate::declarations::{lower_hosts, lower_inputs, lower_registers, lower_tables};
-use crate::expressions::lower_expression;
+use crate::expressions::{Lowering, lower_expression};
 use koika_check::Checked;
 use kw_bits::{NoMemory, Sequence, Text};
 use std::alloc::Global;
@@ -54,11 +54,15 @@ fn lower_rules(alloc: Global, checked: &Checked) -> Result<Sequence<Rule>, NoMem
     requires { IsTypedDesign checked.now }
     ensures { IfOk result (AreRules checked.now checked.now.rules) }
 {
-    let functions = checked.functions.len();
+    let lowering = Lowering {
+        alloc,
+        design: checked,
+        functions: checked.functions.len(),
+    };
     let mut all = Sequence::new(alloc);
     let rules = checked.rules.as_slice();
     for rule in rules {
-        let body = lower_expression(alloc, checked, functions, &Scope::empty(), 0, &rule.body)?;
+        let body = lower_expression(&lowering, &Scope::empty(), 0, &rule.body)?;
         all.push(Rule {
             name: Text::from_slice(alloc, rule.name.as_slice())?,
             body: body.action,

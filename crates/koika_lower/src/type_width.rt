@@ -1,6 +1,6 @@
 //! Lowering: the width of a type.
 
-ghost use Rattle.std.specs.Prelude.{◌≡◌};
+ghost use Rattle.std.specs.Prelude.{◌≡◌, ◌≤◌};
 ghost use Rattle.koika_check.specs.Types as types;
 ghost use Rattle.koika_check.specs.Typing.{IsType};
 
@@ -8,7 +8,8 @@ use koika_check::{BaseType, Checked, ValueType};
 
 /// How many bits a value of a valid type has.
 pub(crate) fn width_of(checked: &Checked, of: &ValueType) -> u32
-    ensures { IsType checked.now of.now → result ≡ types.width_of checked.now of.now }
+    requires { IsType checked.now of.now }
+    ensures { result ≡ types.width_of checked.now of.now }
 {
     let mut width = base_width(checked, of.base);
     let lengths = of.lengths.as_slice();
@@ -18,18 +19,14 @@ pub(crate) fn width_of(checked: &Checked, of: &ValueType) -> u32
     width
 }
 
+// How many bits a value of a base type has: an enum and a struct are declared, since there is none without a bit.
 fn base_width(checked: &Checked, base: BaseType) -> u32
+    requires { 1 ≤ types.base_width checked.now base }
     ensures { result ≡ types.base_width checked.now base }
 {
     match base {
         BaseType::Bits(width) => width,
-        BaseType::Enum(number) => match checked.enums.as_slice().get(number as usize) {
-            Some(declared) => declared.width,
-            None => 0,
-        },
-        BaseType::Struct(number) => match checked.structs.as_slice().get(number as usize) {
-            Some(declared) => declared.width,
-            None => 0,
-        },
+        BaseType::Enum(number) => checked.enums.as_slice()[number as usize].width,
+        BaseType::Struct(number) => checked.structs.as_slice()[number as usize].width,
     }
 }

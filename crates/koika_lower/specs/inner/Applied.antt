@@ -19,6 +19,8 @@ use Rattle.koika_check.specs.Typing.{Chains, Compares, IsType, Pairwise}
 use Rattle.koika_check.specs.declared.checked.Checked.{Checked}
 use Rattle.koika_check.specs.declared.checked.Host.{Host}
 use Rattle.koika_check.specs.declared.checked.Table.{Table}
+use Rattle.koika_check.specs.declared.typed.Operation.{Operation}
+use Rattle.koika_check.specs.declared.typed.Operation.TheVariants as operation
 use Rattle.koika_check.specs.declared.typed.ValueType.{ValueType}
 use Rattle.koika_check.specs.declared.typed.Selection.{Selection}
 use Rattle.koika_check.specs.declared.typed.Selection.TheVariants as selection
@@ -228,8 +230,22 @@ pub record IsCompared (comparison : SignedComparison) (operands : List Lowered) 
   pub right : Lowered
   pub before : List Lowered
   pub init : List Lowered
-  pub last : (operands ≡ before ++ right ∷ []) ⊎ (operands ≡ [])
-  pub first : (before ≡ init ++ left ∷ []) ⊎ (before ≡ [])
+  pub last : operands ≡ before ++ right ∷ []
+  pub first : before ≡ init ++ left ∷ []
   pub value : (x y : BitVector) → form_value form x y ≡ comparison_value comparison x y
   pub fits : FormFits Compares form
   pub formed : IsFormed form left right l
+
+-- an operation, no call, on as many operands as it takes, whose numbers name what is declared
+abbrev pub CanBeApplied : Checked → Operation → List Lowered → Type 0
+CanBeApplied d (operation.Chain operators width) operands = length operands ≡ length operators + 1
+CanBeApplied d (operation.Struct number) operands = 1 ≤ length operands
+CanBeApplied d operation.Array operands = 1 ≤ length operands
+CanBeApplied d (operation.Update selection) operands = 1 ≤ length operands
+CanBeApplied d (operation.Compare comparison) operands = length operands ≡ 2
+CanBeApplied d (operation.Table number) operands = (number < length d.tables) × (1 ≤ length operands)
+CanBeApplied d (operation.Host number) operands = (number < length d.hosts) × (1 ≤ length operands)
+CanBeApplied d (operation.Call number) operands = ⊥
+CanBeApplied d (operation.Read port register) operands = register < length d.registers
+CanBeApplied d operation.Abort operands = Unit {0}
+CanBeApplied d o operands = 1 ≤ length operands

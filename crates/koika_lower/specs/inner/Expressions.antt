@@ -22,6 +22,19 @@ step_meaning s = fold-BlockStep (StepMeaning Stopped) (Meaning Stopped) step_ste
 abbrev pub block_sense : List BlockStep → Sense
 block_sense steps s = steps_in_turn (map (step_meaning s) steps)
 
+-- an expression, expressions side by side and the steps of a block that are well typed in a well typed design
+abbrev pub IsTyped : Checked → (functions depth : ℕ) → List Bound → Typed → Type 0
+IsTyped d functions depth names e = (types : List ValueType) × (of : Option ValueType) ×
+    IsTypedDesign d × AreNames d depth names types × HasType d functions e types of
+
+abbrev pub AreTyped : Checked → (functions depth : ℕ) → List Bound → List Typed → Type 0
+AreTyped d functions depth names es = (types : List ValueType) × (ofs : List (Option ValueType)) ×
+    IsTypedDesign d × AreNames d depth names types × Pairwise (λ e of. HasType d functions e types of) es ofs
+
+abbrev pub AreTypedSteps : Checked → (functions depth : ℕ) → List Bound → List BlockStep → Type 0
+AreTypedSteps d functions depth names steps = (types : List ValueType) × (of : Option ValueType) ×
+    IsTypedDesign d × AreNames d depth names types × StepsHaveType (StepHasType d functions) steps types of
+
 -- the lowered are those of the expressions, one by one, wherever these are well typed
 abbrev pub AreLowered : Checked → (functions depth : ℕ) → (rises : Bool) → List Bound → List Typed → List Lowered → Type 0
 AreLowered d functions depth rises names es ls = (types : List ValueType) (ofs : List (Option ValueType)) →
