@@ -1,5 +1,5 @@
 -- The rows of a bit-level circuit's run fit what texts tell of it.
-use Rattle.std.proofs.Common.{◌≡◌, ℕ, zero, suc, ◌+◌, Bool, false, List, map, sym, subst, ◌∙◌}
+use Rattle.std.proofs.Common.{◌≡◌, ℕ, zero, suc, ◌+◌, Bool, false, List, map, sym, subst, arith}
 use Rattle.std.proofs.lemmas.List.{length-map}
 use Rattle.std.proofs.lemmas.Simd.{map-map}
 use Rattle.std.specs.List.{AllByRecursion}
@@ -29,7 +29,7 @@ module _ (a : AigParts) (valid : IsAig a) (inputs : InputsByCycle) where
   row-fits : (regs : List BitVector) (f : OutputBit → Bool) → AreBits regs (latch_widths a.latches) → Fits (record { regs = regs; fired = map f a.outputs })
   row-fits regs f are = record {
     values = subst (λ (ws : List ℕ). HaveWidths ws regs) (sym latches-told) (are-fit regs (latch_widths a.latches) are);
-    flags = length-map a.outputs f ∙ sym (length-map a.outputs shapes.name_of);
+    flags = omega (arith, length-map a.outputs f, length-map a.outputs shapes.name_of);
   }
 
   next-fits : (given states : List BitVector) → Fits (row_after a given states)

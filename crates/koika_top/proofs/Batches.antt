@@ -1,5 +1,5 @@
 -- A run that is told batch by batch: what is told so far, and what is left.
-use Rattle.std.proofs.Common.{◌≡◌, ◌≢◌, ℕ, zero, suc, ◌+◌, ◌<◌, ◌≤◌, List, [], ◌∷◌, ◌++◌, length, take, drop, Option, Some, None, Result, Ok, Err, refl, sym, ap, subst, ◌∙◌, append_assoc, arith}
+use Rattle.std.proofs.Common.{◌≡◌, ◌≢◌, ℕ, zero, suc, ◌+◌, ◌<◌, ◌≤◌, Bool, true, false, List, [], ◌∷◌, ◌++◌, length, take, drop, Option, Result, Ok, Err, refl, sym, ap, subst, ◌∙◌, append_assoc, arith}
 use Rattle.std.proofs.lemmas.List.{drop-drop, length-drop, take-append-drop}
 use Rattle.std.specs.List.{AllByRecursion}
 use Rattle.one_rule.specs.declared.rows.Row.{Row}
@@ -13,12 +13,13 @@ use Rattle.koika_assert.specs.Violations.{violations, watched, watched_text}
 use Rattle.koika_top.specs.inner.Engines.{AreRows}
 use Rattle.front_end.specs.Marks.{Marks}
 use Rattle.front_end.specs.Streams.{Stream}
-use Rattle.koika_top.specs.inner.Telling.{FormGoesOn, FormHasRows, GoesOnFrom, HasRows, TakesRows, all_told, ending_of, ending_of_form, part_of_batch, shown_by, shown_by_form, shown_text, told_of}
+use Rattle.koika_top.specs.inner.Telling.{FormGoesOn, FormHasRows, GoesOnFrom, HasRows, TakesRows, all_told, ending_of, ending_of_form, part_of_batch, shown_by, shown_by_form, told_of, writes_rows}
 use Rattle.front_end.specs.Told.{Told}
+use Rattle.koika_top.specs.Sim.{rows_text}
 use Rattle.koika_top.specs.declared.shown.Shown.{Shown}
 use Rattle.koika_top.specs.declared.shown.Shown.TheVariants.{Report, Summary}
 use Rattle.koika_top.specs.declared.teller.Form.{Form}
-use Rattle.koika_top.specs.declared.teller.Form.TheVariants.{OfReport, OfSummary, OfNothing}
+use Rattle.koika_top.specs.declared.teller.Form.TheVariants.{OfReport, OfSummary}
 use Rattle.koika_top.specs.declared.teller.Teller.{Teller}
 use Rattle.front_end.specs.declared.untold.Untold.{Untold}
 use Rattle.front_end.specs.declared.untold.Untold.TheVariants as untold
@@ -66,52 +67,52 @@ module _ (rows : ℕ → List Row) (run : AreRows rows) where
   not_one_row k h e = omega (arith, h, e, run.count k)
 
   -- what is told of the rows of two parts
-  told-next : (shown : Option Shown) (shape : Shape) (from to : ℕ) → 1 ≤ from → from ≤ to
+  told-next : (shown : Shown) (shape : Shape) (from to : ℕ) → 1 ≤ from → from ≤ to
       → told_of shown shape (rows from) ++ part_of_batch shown shape (drop from (rows to)) from ≡ told_of shown shape (rows to)
-  told-next (Some Report) shape from to low h =
+  told-next Report shape from to low h =
       ap (λ n. report shape (rows from) ++ report_part shape (drop from (rows to)) n) (sym (last_cycle-rows from))
       ∙ parts_join shape (rows from) (drop from (rows to)) (not_one_row from low)
       ∙ ap (report shape) (rows-joined from to h)
-  told-next (Some Summary) shape from to low h = refl
-  told-next None shape from to low h = refl
+  told-next Summary shape from to low h = refl
 
   -- what was told up to a cycle is the first part of all
-  rest-after : (shown : Option Shown) (shape : Shape) (marks : Marks) (from n : ℕ) → (from ≡ 0 → n ≡ 0) → from ≤ n
+  rest-after : (shown : Shown) (shape : Shape) (marks : Marks) (from n : ℕ) → (from ≡ 0 → n ≡ 0) → from ≤ n
       → (rest : List ℕ) × (told_of shown shape (rows from) ++ rest ≡ all_told shown shape marks (rows n))
-  rest-after (Some Report) shape marks zero n none h =
+  rest-after Report shape marks zero n none h =
       let last = violations marks.names marks.rules (rows n) in
       (last, ap (λ k. report shape (rows k) ++ last) (sym (none refl)))
-  rest-after (Some Report) shape marks (suc from) n none h =
+  rest-after Report shape marks (suc from) n none h =
       let last = violations marks.names marks.rules (rows n) in
       let part = report_part shape (drop (suc from) (rows n)) (suc from) in
-      (part ++ last, sym (append_assoc (report shape (rows (suc from))) part last) ∙ ap (λ l. l ++ last) (told-next (Some Report) shape (suc from) n (omega arith) h))
-  rest-after (Some Summary) shape marks from n none h = (summary shape (rows n) ++ violations marks.names marks.rules (rows n), refl)
-  rest-after None shape marks from n none h = (violations marks.names marks.rules (rows n), refl)
+      (part ++ last, sym (append_assoc (report shape (rows (suc from))) part last) ∙ ap (λ l. l ++ last) (told-next Report shape (suc from) n (omega arith) h))
+  rest-after Summary shape marks from n none h = (summary shape (rows n) ++ violations marks.names marks.rules (rows n), refl)
 
 -- what is told first of all is what is told of the first batch
-told-first : (shown : Option Shown) (shape : Shape) (rows : List Row) → part_of_batch shown shape rows 0 ≡ told_of shown shape rows
-told-first (Some Report) shape rows = refl
-told-first (Some Summary) shape rows = refl
-told-first None shape rows = refl
+told-first : (shown : Shown) (shape : Shape) (rows : List Row) → part_of_batch shown shape rows 0 ≡ told_of shown shape rows
+told-first Report shape rows = refl
+told-first Summary shape rows = refl
+
+-- and where nothing is written before the last batch, it is nothing
+pub no-part : (shown : Shown) (shape : Shape) (batch : List Row) (from : ℕ) → writes_rows shown ≡ false → part_of_batch shown shape batch from ≡ []
+no-part Report shape batch from none = let no : true ≡ false = none in absurd cc
+no-part Summary shape batch from none = refl
 
 -- what is told, and the ending after it, are all that is told
 form-whole : (form : Form) (shape : Shape) (rows : List Row) (more : List ℕ) → FormHasRows form shape rows
-    → told_of (shown_by_form form) shape rows ++ (ending_of_form form ++ more) ≡ shown_text (shown_by_form form) shape rows ++ more
+    → told_of (shown_by_form form) shape rows ++ (ending_of_form form ++ more) ≡ rows_text (shown_by_form form) shape rows ++ more
 form-whole OfReport shape rows more h = refl
 form-whole (OfSummary tally) shape rows more h = ap (λ t. totals_text t ++ more) h
-form-whole OfNothing shape rows more h = refl
 
 told-whole : (teller : Teller) (shape : Shape) (marks : Marks) (rows : List Row) → HasRows teller shape marks rows → told_of (shown_by teller) shape rows ++ ending_of teller ≡ all_told (shown_by teller) shape marks rows
 told-whole teller shape marks rows h =
     form-whole teller.form shape rows (watched_text teller.watch) h.0
-    ∙ ap (λ known. shown_text (shown_by teller) shape rows ++ watched_text known) h.1
+    ∙ ap (λ known. rows_text (shown_by teller) shape rows ++ watched_text known) h.1
 
 -- a teller goes on from the cycle that its rows end with
 form-goes-on : (form : Form) (shape : Shape) (rows : List Row) (from : ℕ) → FormHasRows form shape rows → last_cycle rows ≡ from → FormGoesOn form shape from
 unfolding totals_of
 form-goes-on OfReport shape rows from h e = tt
 form-goes-on (OfSummary tally) shape rows from h e = (ap (λ t. t.registers) h, ap (λ t. t.rules) h, ap (λ t. t.cycles) h ∙ e)
-form-goes-on OfNothing shape rows from h e = tt
 
 pub goes-on : (teller : Teller) (shape : Shape) (marks : Marks) (rows : List Row) (from : ℕ) → HasRows teller shape marks rows → last_cycle rows ≡ from → GoesOnFrom teller shape from
 unfolding watched
@@ -138,14 +139,14 @@ begun (suc from) cycles none h = omega arith
 
 -- ---- what is written of a run
 
-module _ (rows : ℕ → List Row) (run : AreRows rows) (shown : Option Shown) (shape : Shape) (marks : Marks) where
+module _ (rows : ℕ → List Row) (run : AreRows rows) (shown : Shown) (shape : Shape) (marks : Marks) where
   abbrev told_to : ℕ → List ℕ
   told_to k = told_of shown shape (rows k)
 
   abbrev told_at : ℕ → List ℕ
   told_at n = all_told shown shape marks (rows n)
 
-  part-first : (s : Option Shown) (to : ℕ) → s ≡ shown → part_of_batch s shape (drop 0 (rows to)) 0 ≡ told_to to
+  part-first : (s : Shown) (to : ℕ) → s ≡ shown → part_of_batch s shape (drop 0 (rows to)) 0 ≡ told_to to
   part-first s to is = ap (λ t. part_of_batch t shape (drop 0 (rows to)) 0) is ∙ ap (λ b. part_of_batch shown shape b 0) (drop-none (rows to)) ∙ told-first shown shape (rows to)
 
   -- a first part that is some of all
@@ -153,10 +154,10 @@ module _ (rows : ℕ → List Row) (run : AreRows rows) (shown : Option Shown) (
   cut from n none h st e told = let rest = rest-after rows run shown shape marks from n none h in told-as _ _ st (Err e) rest.1 (told-cut (told_to from) rest.0 st e told)
 
   -- the first batch
-  pub first-told : (s : Option Shown) (to : ℕ) → s ≡ shown → (st : Stream) (r : Result (Unit {0}) Untold) → Told (part_of_batch s shape (drop 0 (rows to)) 0) st r → Told (told_to to) st r
+  pub first-told : (s : Shown) (to : ℕ) → s ≡ shown → (st : Stream) (r : Result (Unit {0}) Untold) → Told (part_of_batch s shape (drop 0 (rows to)) 0) st r → Told (told_to to) st r
   first-told s to is st r told = told-as _ _ st r (part-first s to is) told
 
-  pub first-cut : (s : Option Shown) (to n : ℕ) → s ≡ shown → (to ≡ 0 → n ≡ 0) → to ≤ n → (st : Stream) (e : Untold) → Told (part_of_batch s shape (drop 0 (rows to)) 0) st (Err e) → Told (told_at n) st (Err e)
+  pub first-cut : (s : Shown) (to n : ℕ) → s ≡ shown → (to ≡ 0 → n ≡ 0) → to ≤ n → (st : Stream) (e : Untold) → Told (part_of_batch s shape (drop 0 (rows to)) 0) st (Err e) → Told (told_at n) st (Err e)
   first-cut s to n is none h st e told = cut to n none h st e (first-told s to is st (Err e) told)
 
   pub first-has : (old new : Teller) (to : ℕ) → TakesRows shape marks old new (drop 0 (rows to)) → HasRows old shape marks [] → HasRows new shape marks (rows to)
@@ -164,17 +165,17 @@ module _ (rows : ℕ → List Row) (run : AreRows rows) (shown : Option Shown) (
 
   -- the next batch, of an engine whose rows are these
   module _ (own : ℕ → List Row) (same : own ≡ rows) (from to : ℕ) (up : from ≤ to) where
-    part-next : (s : Option Shown) → 1 ≤ from → s ≡ shown → told_to from ++ part_of_batch s shape (drop from (own to)) from ≡ told_to to
+    part-next : (s : Shown) → 1 ≤ from → s ≡ shown → told_to from ++ part_of_batch s shape (drop from (own to)) from ≡ told_to to
     part-next s low is =
         ap (λ t. told_to from ++ part_of_batch t shape (drop from (own to)) from) is
         ∙ ap (λ (all : ℕ → List Row). told_to from ++ part_of_batch shown shape (drop from (all to)) from) same
         ∙ told-next rows run shown shape from to low up
 
-    pub next-told : (s : Option Shown) → 1 ≤ from → s ≡ shown → (a b c : Option (List ℕ)) (l m k : ℕ) (u : Unit {0}) (r : Result (Unit {0}) Untold)
+    pub next-told : (s : Shown) → 1 ≤ from → s ≡ shown → (a b c : Option (List ℕ)) (l m k : ℕ) (u : Unit {0}) (r : Result (Unit {0}) Untold)
         → Told (told_to from) (at a b l m) (Ok u) → Told (part_of_batch s shape (drop from (own to)) from) (at b c m k) r → Told (told_to to) (at a c l k) r
     next-told s low is a b c l m k u r one two = told-as _ _ (at a c l k) r (part-next s low is) (told-then _ _ a b c l m k u r one two)
 
-    pub next-cut : (s : Option Shown) → 1 ≤ from → s ≡ shown → (n : ℕ) → to ≤ n → (a b c : Option (List ℕ)) (l m k : ℕ) (u : Unit {0}) (e : Untold)
+    pub next-cut : (s : Shown) → 1 ≤ from → s ≡ shown → (n : ℕ) → to ≤ n → (a b c : Option (List ℕ)) (l m k : ℕ) (u : Unit {0}) (e : Untold)
         → Told (told_to from) (at a b l m) (Ok u) → Told (part_of_batch s shape (drop from (own to)) from) (at b c m k) (Err e) → Told (told_at n) (at a c l k) (Err e)
     next-cut s low is n h a b c l m k u e one two =
         cut to n (λ none. absurd (omega (arith, none, low, up))) h (at a c l k) e (next-told s low is a b c l m k u (Err e) one two)

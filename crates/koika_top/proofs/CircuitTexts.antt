@@ -1,6 +1,6 @@
 -- What the readers of a source found of its circuit text.
-use Rattle.std.proofs.Common.{◌≡◌, ℕ, ◌≤◌, ◌<◌, ◌^◌, not, Bool, true, false, List, [], ◌∷◌, map, length, Option, None, Some, Result, Ok, Err, inl, inr, ⊎_elim, refl, sym, ap, ap₂, subst, ◌∙◌, arith}
-use Rattle.std.specs.Prelude.{IfOk, IfSome, OnOk, ◌⊎◌, ◌||◌, ◌*◌, min, nat_lt}
+use Rattle.std.proofs.Common.{◌≡◌, ℕ, ◌+◌, ◌≤◌, ◌<◌, ◌^◌, Bool, true, false, cond, List, [], ◌∷◌, map, length, Option, None, Some, All, Result, Ok, Err, inl, inr, ⊎_elim, refl, sym, ap, ap₂, subst, ◌∙◌, arith}
+use Rattle.std.specs.Prelude.{IfOk, OnOk, ◌⊎◌, ◌||◌, ◌*◌, min, nat_lt}
 use Rattle.std.specs.List.{list_any}
 use Rattle.std.proofs.lemmas.Bool.{ltb-false}
 use Rattle.std.proofs.lemmas.List.{length-map}
@@ -16,12 +16,13 @@ use Rattle.btor2_model.specs.Acceptance.{first_fault}
 use Rattle.btor2_model.specs.Rules.{is_bad, is_input, is_output, is_state, rule_of}
 use Rattle.btor2_model.specs.Run.{lines_by_rule, width_in}
 use Rattle.btor2_model.specs.declared.rule.FormRule.{FormRule}
-use Rattle.btor2_net.specs.Translations.{HasLines, line_name}
+use Rattle.btor2_net.specs.Translations.{line_name}
 use Rattle.btor2_net.proofs.FewLines.{few-lines, filter-fewer}
-use Rattle.circuit_eval.specs.Circuits.{input_widths}
+use Rattle.circuit_eval.specs.Circuits.{IsCircuit, input_widths}
 use Rattle.circuit_eval.specs.declared.circuit.OutputWire.{OutputWire}
 use Rattle.circuit_eval.specs.declared.circuit.Wires.{Wires}
-use Rattle.koika_assert.specs.Bads.{bads_as_outputs, turned}
+use Rattle.typed_core.specs.Valid.{IsWidth}
+use Rattle.koika_assert.specs.Bads.{ShowsBeside, is_shown, turned}
 use Rattle.kw_base.specs.Texts as texts
 use Rattle.stim_report.specs.Cuts as cuts
 use Rattle.stim_report.specs.Shapes.{widths_of}
@@ -30,12 +31,11 @@ use Rattle.stim_report.specs.declared.shape.NameWidth.{NameWidth}
 use Rattle.stim_report.specs.declared.shape.Shape.{Shape}
 use Rattle.koika_top.specs.Btorsim as text
 use Rattle.koika_top.specs.Btorsim.{HasNoLines, HasNoStimulus, HasNoText, HoldsLines, HoldsText, IsRefusal, RunsTooLong, is_too_long, longest_circuit}
-use Rattle.koika_top.specs.inner.CircuitRuns.{AreBadsOf, HasFewLines, ShowsBads}
-use Rattle.koika_top.specs.CircuitShapes as circuit
+use Rattle.koika_top.specs.inner.CircuitRuns.{HasFewLines, IsCircuitOf, IsMixedOf, output_mask}
 use Rattle.front_end.specs.Lengths as lengths
-use Rattle.koika_top.specs.declared.bad_flags.BadFlags.{BadFlags}
 use Rattle.front_end.proofs.FewCycles.{or-sides}
-use Rattle.koika_top.proofs.Shapes.{inputs-count, widths-told}
+use Rattle.koika_top.proofs.ChosenOutputs.{output-no-bad}
+use Rattle.koika_top.proofs.Shapes.{widths-told, widths-valid}
 
 -- a fault of a part is one of the whole
 pub fault-of-part : (P Q : Fault → Type 0) (e : Refusal) → ((fault : Fault) → P fault → Q fault) → IfFault {X = Unit {0}} (Err e) P → IfFault {X = Unit {0}} (Err e) Q
@@ -76,42 +76,45 @@ none-bad (line ∷ lines) none =
     let both = or-sides (is_bad (rule_of line.keyword)) (list_any (λ (line : Line). is_bad (rule_of line.keyword)) lines) none in
     rw both.0 (none-bad lines both.1)
 
--- the text that shows violations has as few lines
-pub few-shown : (lines shown : List Line) → HasFewLines lines → shown ≡ bads_as_outputs lines → HasFewLines shown
-few-shown lines shown few is test =
-    let kept : List Line = lines_by_rule (λ (r : FormRule). not (is_output r)) lines in
-    let less = filter-fewer (λ (line : Line). test (rule_of line.keyword)) (map turned kept) in
-    let count = length-map kept turned in
-    let bound : length (lines_by_rule test (map turned kept)) < 2 ^ 32 = omega (arith, less, count, few (λ (r : FormRule). not (is_output r))) in
-    subst (λ (ls : List Line). length (lines_by_rule test ls) < 2 ^ 32) (sym is) bound
+fewer-lines : (test : FormRule → Bool) (lines shown : List Line) → map line_name (lines_by_rule test shown) ≡ map line_name (lines_by_rule test lines) → length (lines_by_rule test lines) < 2 ^ 32
+    → length (lines_by_rule test shown) < 2 ^ 32
+fewer-lines test lines shown named few =
+    omega (arith, ap length named, length-map (lines_by_rule test shown) line_name, length-map (lines_by_rule test lines) line_name, few)
 
--- the circuit that shows violations has inputs of the same widths
-bad-widths : (lines : List Line) (c bads : Wires) → HasLines lines c → ShowsBads lines bads → input_widths c.inputs ≡ input_widths bads.inputs
-bad-widths lines c bads has shows = has.input_widths ∙ sym shows.shows.inputs ∙ sym shows.has.input_widths
+-- the text that shows bad lines beside outputs has as few inputs and states
+pub few-beside : (lines shown : List Line) → HasFewLines lines → ShowsBeside lines shown → (length (lines_by_rule is_input shown) < 2 ^ 32) × (length (lines_by_rule is_state shown) < 2 ^ 32)
+few-beside lines shown few shows = (fewer-lines is_input lines shown shows.inputs (few is_input), fewer-lines is_state lines shown shows.states (few is_state))
 
--- and so a stimulus fits it, if there is one
-pub bads-fit : (lines : List Line) (c : Wires) (bads : Option BadFlags) (stimulus : InputVectors) → HasLines lines c → AreBadsOf lines bads → stimulus.widths ≡ input_widths c.inputs
-    → IfSome bads (λ flags. stimulus.widths ≡ input_widths flags.circuit.inputs)
-bads-fit lines c None stimulus has are fits = tt
-bads-fit lines c (Some flags) stimulus has are fits = fits ∙ bad-widths lines c flags.circuit has are.0
+one-counted : (p q : Bool) (x : Line) (os bs all : List Line) → (p ≡ true → q ≡ false) → length os + length bs ≡ length all
+    → length (cond p (x ∷ os) os) + length (cond q (x ∷ bs) bs) ≡ length (cond (p || q) (x ∷ all) all)
+one-counted true true x os bs all apart count = let no : true ≡ false = apart refl in absurd cc
+one-counted true false x os bs all apart count = omega (arith, count)
+one-counted false true x os bs all apart count = omega (arith, count)
+one-counted false false x os bs all apart count = count
 
-name-turned : (line : Line) → line_name (turned line) ≡ line_name line
-name-turned line = refl
+shown-count : (lines : List Line) → length (lines_by_rule is_output lines) + length (lines_by_rule is_bad lines) ≡ length (lines_by_rule is_shown lines)
+shown-count [] = refl
+shown-count (line ∷ lines) =
+    one-counted (is_output (rule_of line.keyword)) (is_bad (rule_of line.keyword)) line (lines_by_rule is_output lines) (lines_by_rule is_bad lines) (lines_by_rule is_shown lines) (output-no-bad (rule_of line.keyword)) (shown-count lines)
 
-names-turned : (lines : List Line) → map line_name (map turned lines) ≡ map line_name lines
-names-turned [] = refl
-names-turned (line ∷ lines) = ap (λ (names : List (List ℕ)). line_name line ∷ names) (names-turned lines)
-
--- and its outputs have their names
-pub bad-names : (lines : List Line) (bads : Wires) → ShowsBads lines bads → map (λ (wire : OutputWire). wire.name) bads.outputs ≡ map line_name (lines_by_rule is_bad lines)
-bad-names lines bads shows = shows.has.outputs ∙ ap (map line_name) shows.shows.names ∙ names-turned (lines_by_rule is_bad lines)
+-- a mark for each output and bad line is one for each output of the circuit that shows them
+pub mask-each : (lines : List Line) (c : Wires) → IsMixedOf lines c → length (output_mask lines) ≡ length c.outputs
+mask-each lines c mixed =
+    let marks = length-map (lines_by_rule is_shown lines) (λ (line : Line). is_output (rule_of line.keyword)) in
+    let wires = length-map c.outputs (λ (wire : OutputWire). wire.name) in
+    let outputs = ap length mixed.has.outputs ∙ length-map (lines_by_rule is_output mixed.shown) line_name ∙ ap length mixed.shows.outputs ∙ length-map (lines_by_rule is_shown lines) turned in
+    omega (arith, marks, wires, outputs)
 
 -- ---- shapes and stimuli
 
-pub few-inputs : (lines : List Line) (c : Wires) (shape : Shape) → HasFewLines lines → HasLines lines c → shape ≡ circuit.shape_of c → length shape.inputs < 2 ^ 32
-few-inputs lines c shape few has is =
-    let count = ap (λ (s : Shape). length s.inputs) is ∙ inputs-count lines c has in
-    omega (arith, count, few is_input)
+pub few-inputs : (lines : List Line) (shape : Shape) → HasFewLines lines → shape ≡ text.shape_of lines → length shape.inputs < 2 ^ 32
+few-inputs lines shape few is =
+    let named : Line → NameWidth = λ line. record { name = line_name line; width = width_in lines line.id } in
+    omega (arith, ap (λ (s : Shape). length s.inputs) is, length-map (lines_by_rule is_input lines) named, few is_input)
+
+-- they have valid widths
+pub widths-fit : (lines : List Line) (c : Wires) (shape : Shape) (names : List (List ℕ)) → IsCircuit c → IsCircuitOf lines c shape names → All IsWidth (widths_of shape.inputs)
+widths-fit lines c shape names valid is = subst (All IsWidth) (widths-told c.inputs ∙ sym is.inputs) (widths-valid c.inputs valid.inputs)
 
 widths-after : (shape : Shape) (cycles : Result (List (List BitVector)) Fault) (stimulus : InputVectors)
     → after cycles (λ (cycles : List (List BitVector)). Ok (record { widths = widths_of shape.inputs; cycles = cycles })) ≡ Ok stimulus → stimulus.widths ≡ widths_of shape.inputs
@@ -124,9 +127,9 @@ unfolding stimulus_of
 stimulus-widths shape line bytes stimulus e = widths-after shape (cycles_from shape.inputs line (texts.lines_of bytes)) stimulus e
 
 -- and so those of the circuit's
-pub stimulus-fits : (c : Wires) (shape : Shape) (line : ℕ) (bytes : List ℕ) (stimulus : InputVectors) → shape ≡ circuit.shape_of c → stimulus_of shape line bytes ≡ Ok stimulus → stimulus.widths ≡ input_widths c.inputs
-stimulus-fits c shape line bytes stimulus is e =
-    stimulus-widths shape line bytes stimulus e ∙ ap (λ (s : Shape). widths_of s.inputs) is ∙ widths-told c.inputs
+pub stimulus-fits : (lines : List Line) (c : Wires) (shape : Shape) (names : List (List ℕ)) (line : ℕ) (bytes : List ℕ) (stimulus : InputVectors) → IsCircuitOf lines c shape names
+    → stimulus_of shape line bytes ≡ Ok stimulus → stimulus.widths ≡ input_widths c.inputs
+stimulus-fits lines c shape names line bytes stimulus is e = stimulus-widths shape line bytes stimulus e ∙ is.inputs
 
 -- what a source gives what has this shape is what it gives the text
 pub given-to : (source : List ℕ) (lines : List Line) (shape : Shape) (line : ℕ) (bytes : List ℕ) (r : Result InputVectors Fault) → shape ≡ text.shape_of lines → line ≡ (cuts.parts_of source).first_line → bytes ≡ (cuts.parts_of source).stimulus
@@ -149,10 +152,11 @@ long-as cycles lines shape long is h =
     let flags = ap (λ (s : Shape). length s.rules) is ∙ length-map (text.flag_lines lines) line_name in
     sym (ap₂ (lengths.is_too_long cycles) states flags) ∙ h
 
--- the names of bad lines are few
-few-names : (lines : List Line) (names : List (List ℕ)) → HasFewLines lines → names ≡ map line_name (lines_by_rule is_bad lines) → length names < 2 ^ 32
-few-names lines names few named = omega (arith, ap length named ∙ length-map (lines_by_rule is_bad lines) line_name, few is_bad)
-
-pub few-bads : (lines : List Line) (bads : Option BadFlags) → HasFewLines lines → AreBadsOf lines bads → IfSome bads (λ flags. length flags.names < 2 ^ 32)
-few-bads lines None few are = tt
-few-bads lines (Some flags) few are = few-names lines flags.names few are.1
+-- flags and bad lines are few together
+pub few-flags : (lines : List Line) (shape : Shape) (names : List (List ℕ)) → HasFewLines lines → shape ≡ text.shape_of lines → names ≡ map line_name (lines_by_rule is_bad lines)
+    → length shape.rules + length names < 2 ^ 32
+few-flags lines shape names few is named =
+    let rules = ap (λ (s : Shape). length s.rules) is ∙ length-map (text.flag_lines lines) line_name in
+    let fewer = filter-fewer (text.is_flag lines) (lines_by_rule is_output lines) in
+    let bads = ap length named ∙ length-map (lines_by_rule is_bad lines) line_name in
+    omega (arith, rules, fewer, bads, shown-count lines, few is_shown)

@@ -1,5 +1,5 @@
--- What a teller and a watch know before all rows, and what is told of no marks and of nothing else.
-use Rattle.std.proofs.Common.{◌≡◌, ℕ, zero, suc, ◌+◌, ◌∷◌, ◌++◌, List, [], Option, Some, None, sym, ap, ap₂, ◌∙◌, append-nil, arith}
+-- What a teller and a watch know before all rows, and what is told of no marks.
+use Rattle.std.proofs.Common.{◌≡◌, ℕ, zero, suc, ◌+◌, ◌∷◌, ◌++◌, List, [], sym, ap, ap₂, ◌∙◌, append-nil, arith}
 use Rattle.std.specs.List.{range_with_len}
 use Rattle.one_rule.specs.declared.rows.Row.{Row}
 use Rattle.stim_report.specs.declared.shape.Shape.{Shape}
@@ -51,16 +51,16 @@ marks-same teller shape marks none =
     (watched-names teller.watch marks.names marks.rules [] none.1) (watched-marks teller.watch marks.names marks.rules [] none.1)
 
 -- of no marks it tells nothing after the rows
-pub nothing-after : (teller : Teller) (shape : Shape) (marks : Marks) (shown : Shown) (rows : List Row) → marks.names ≡ [] → HasRows teller shape marks [] → shown_by teller ≡ Some shown
+pub nothing-after : (teller : Teller) (shape : Shape) (marks : Marks) (shown : Shown) (rows : List Row) → marks.names ≡ [] → HasRows teller shape marks [] → shown_by teller ≡ shown
     → all_told (shown_by teller) shape (marks_in teller) rows ≡ rows_text shown shape rows
 nothing-after teller shape marks shown rows none h is =
-    ap (λ (s : Option Shown). all_told s shape (marks_in teller) rows) is
+    ap (λ (s : Shown). all_told s shape (marks_in teller) rows) is
     ∙ ap (λ (l : List ℕ). rows_text shown shape rows ++ l) (none-told teller.watch.names teller.watch.marks rows (watched-names teller.watch marks.names marks.rules [] h.1 ∙ none))
     ∙ append-nil (rows_text shown shape rows)
 
--- and of nothing but marks it tells their violations
-pub marks-alone : (teller : Teller) (shape : Shape) (marks : Marks) (rows : List Row) → HasRows teller shape marks [] → shown_by teller ≡ None
-    → all_told (shown_by teller) shape (marks_in teller) rows ≡ violations marks.names marks.rules rows
-marks-alone teller shape marks rows h is =
-    ap (λ (s : Option Shown). all_told s shape (marks_in teller) rows) is
-    ∙ ap (λ (m : Marks). violations m.names m.rules rows) (marks-same teller shape marks h)
+-- and of the marks that it was made of what is shown of the rows and their violations
+pub marked-told : (teller : Teller) (shape : Shape) (marks : Marks) (shown : Shown) (rows : List Row) → HasRows teller shape marks [] → shown_by teller ≡ shown
+    → all_told (shown_by teller) shape (marks_in teller) rows ≡ rows_text shown shape rows ++ violations marks.names marks.rules rows
+marked-told teller shape marks shown rows h is =
+    ap (λ (s : Shown). all_told s shape (marks_in teller) rows) is
+    ∙ ap (λ (m : Marks). all_told shown shape m rows) (marks-same teller shape marks h)

@@ -38,11 +38,12 @@ use Rattle.koika_check.specs.Declarations.{assert_with, declare, enum_with, func
 use Rattle.koika_check.specs.Expressions.{block_in}
 use Rattle.koika_check.specs.Outcomes.{Gives, holds, one_by_one, where_all, wrong}
 use Rattle.koika_check.specs.Schedule.{scheduler_nodes}
-use Rattle.koika_check.specs.Scopes.{function_named, host_named, input_named, register_named, rule_named, table_named}
-use Rattle.koika_check.specs.Types.{enum_named, struct_named, type_of}
+use Rattle.koika_check.specs.Types.{type_of}
 use Rattle.koika_check.specs.declared.checked.Checked.{Checked}
 use Rattle.koika_check.specs.declared.checked.Register.{Register}
 use Rattle.koika_check.specs.declared.checked.CheckedRule.{CheckedRule}
+use Rattle.koika_check.specs.Kinds.{number_named as declared_named}
+use Rattle.koika_check.specs.declared.things.Kind.TheVariants as kind
 use Rattle.koika_lower.specs.Lowering.{IsLowered, register_of as lowered_register}
 use Rattle.front_end.proofs.LoweredRuns.{twice}
 use Rattle.front_end.proofs.WordNames.{GivesSuch, behind, behind-any, given, unless-such}
@@ -173,10 +174,10 @@ none-there : (found : Option ℕ) → is_some found ≡ false → found ≡ None
 none-there None is = refl
 none-there (Some k) is = absurd (false≢true (sym is))
 
-unseen : (d : Checked) (name : List ℕ) → is_declared d name ≡ false → (register_named d name ≡ None) × (rule_named d name ≡ None)
+unseen : (d : Checked) (name : List ℕ) → is_declared d name ≡ false → (declared_named kind.Register d name ≡ None) × (declared_named kind.Rule d name ≡ None)
 unseen d name is =
-    let parts = pick (is_some (enum_named d name)) (is_some (struct_named d name)) (is_some (register_named d name)) (is_some (input_named d name)) (is_some (table_named d name)) (is_some (host_named d name)) (is_some (function_named d name)) (is_some (rule_named d name)) is in
-    (none-there (register_named d name) parts.0, none-there (rule_named d name) parts.1)
+    let parts = pick (is_some (declared_named kind.Enum d name)) (is_some (declared_named kind.Struct d name)) (is_some (declared_named kind.Register d name)) (is_some (declared_named kind.Input d name)) (is_some (declared_named kind.Table d name)) (is_some (declared_named kind.Host d name)) (is_some (declared_named kind.Function d name)) (is_some (declared_named kind.Rule d name)) is in
+    (none-there (declared_named kind.Register d name) parts.0, none-there (declared_named kind.Rule d name) parts.1)
 
 abbrev registers_of : Checked → List (List ℕ)
 registers_of d = map (λ (r : Register). r.name) d.registers

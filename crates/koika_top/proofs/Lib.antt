@@ -27,12 +27,14 @@ pub mod MachineRows
 pub mod MachineRuns
 pub mod CircuitFits
 pub mod CircuitTexts
-pub mod CircuitViolations
+pub mod ChosenOutputs
+pub mod BesideRuns
+pub mod BesideTold
 pub mod OneCircuitAnswer
 pub mod OneAigAnswer
 pub mod CircuitAnswered
 pub mod AigAnswered
-pub mod CircuitShown
+pub mod CountedRows
 pub mod CircuitTold
 pub mod AigFits
 pub mod AigTexts

@@ -1,10 +1,13 @@
 -- The rows of a machine's run: as many as there are cycles and one more, the first ones of a longer run, and those of its parts.
-use Rattle.std.proofs.Common.{◌≡◌, ℕ, zero, suc, ◌+◌, ◌-◌, ◌≤◌, List, [], ◌∷◌, length, take, drop, refl, sym, ap, ◌∙◌, arith}
+use Rattle.std.proofs.Common.{◌≡◌, ℕ, zero, suc, ◌+◌, ◌-◌, ◌≤◌, List, [], ◌∷◌, ◌++◌, length, take, drop, refl, sym, ap, subst, ◌∙◌, arith}
+use Rattle.std.proofs.lemmas.List.Sums.{fold-append}
+use Rattle.std.specs.List.{AllByRecursion}
 use Rattle.kw_bits.specs.BitVector.{BitVector}
 use Rattle.one_rule.specs.Run.{InputsByCycle}
 use Rattle.one_rule.specs.Stimulus.{InputVectors, inputs_of}
 use Rattle.one_rule.specs.declared.rows.Row.{Row}
 use Rattle.circuit_eval.specs.Machines.{after_steps, rows_after}
+use Rattle.stim_report.specs.Summary.{last_values}
 use Rattle.koika_top.specs.inner.Engines.{AreRows, StandsAfter, rows_of}
 
 pub drop-none : (rows : List Row) → drop 0 rows ≡ rows
@@ -13,7 +16,7 @@ drop-none (row ∷ rows) = refl
 
 module _ {M : Type 0} (step : M → List BitVector → M) (inputs : InputsByCycle) where
   -- no steps change what none changes
-  steps-keep : {X : Type 0} (f : M → X) → ((m : M) (given : List BitVector) → f (step m given) ≡ f m) → (count last : ℕ) (m : M) → f (after_steps step inputs count last m) ≡ f m
+  pub steps-keep : {X : Type 0} (f : M → X) → ((m : M) (given : List BitVector) → f (step m given) ≡ f m) → (count last : ℕ) (m : M) → f (after_steps step inputs count last m) ≡ f m
   steps-keep f keeps zero last m = refl
   steps-keep f keeps (suc count) last m = steps-keep f keeps count (last + 1) (step m (inputs (last + 1))) ∙ keeps m (inputs (last + 1))
 
@@ -39,8 +42,16 @@ module _ {M : Type 0} (step : M → List BitVector → M) (inputs : InputsByCycl
       ∙ steps-behind from 0 to m (omega (arith, h))
       ∙ ap (λ (k : ℕ). after_steps step inputs k 0 m) all
 
+  -- a step more is made last
+  pub steps-more : (count last : ℕ) (m : M) → after_steps step inputs (suc count) last m ≡ step (after_steps step inputs count last m) (inputs (last + count + 1))
+  steps-more zero last m = let here : last + 1 ≡ last + 0 + 1 = omega arith in ap (λ (k : ℕ). step m (inputs k)) here
+  steps-more (suc count) last m =
+      let next : M = step m (inputs (last + 1)) in
+      let here : last + 1 + count + 1 ≡ last + suc count + 1 = omega arith in
+      steps-more count (last + 1) next ∙ ap (λ (k : ℕ). step (after_steps step inputs count (last + 1) next) (inputs k)) here
+
   module _ (row_at : M → Row) where
-    after-count : (n last : ℕ) (m : M) → length (rows_after step row_at inputs n last m) ≡ n
+    pub after-count : (n last : ℕ) (m : M) → length (rows_after step row_at inputs n last m) ≡ n
     after-count zero last m = refl
     after-count (suc n) last m = omega (arith, after-count n (last + 1) (step m (inputs (last + 1))))
 
@@ -50,6 +61,39 @@ module _ {M : Type 0} (step : M → List BitVector → M) (inputs : InputsByCycl
     after-front (suc k) (suc n) last m h =
         let next : M = step m (inputs (last + 1)) in
         ap (λ (rows : List Row). row_at next ∷ rows) (after-front k n (last + 1) next (omega (arith, h)))
+
+    -- the row of a cycle more comes last
+    pub rows-more : (count last : ℕ) (m : M) → rows_after step row_at inputs (suc count) last m ≡ rows_after step row_at inputs count last m ++ row_at (after_steps step inputs (suc count) last m) ∷ []
+    rows-more zero last m = refl
+    rows-more (suc count) last m = ap (λ (rows : List Row). row_at (step m (inputs (last + 1))) ∷ rows) (rows-more count (last + 1) (step m (inputs (last + 1))))
+
+    -- also where cycles are told by the last of them
+    pub rows-turn : (from last : ℕ) (m next : M) → from ≤ last → next ≡ after_steps step inputs (last + 1 - from) from m
+        → rows_after step row_at inputs (last + 1 - from) from m ≡ rows_after step row_at inputs (last - from) from m ++ row_at next ∷ []
+    rows-turn from last m next up is =
+        let count : last + 1 - from ≡ suc (last - from) = omega (arith, up) in
+        ap (λ (k : ℕ). rows_after step row_at inputs k from m) count
+        ∙ rows-more (last - from) from m
+        ∙ ap (λ (k : ℕ). rows_after step row_at inputs (last - from) from m ++ row_at (after_steps step inputs k from m) ∷ []) (sym count)
+        ∙ ap (λ (now : M). rows_after step row_at inputs (last - from) from m ++ row_at now ∷ []) (sym is)
+
+    -- the registers of the last row of some cycles
+    pub last-regs : (count last : ℕ) (m : M) → 1 ≤ count → last_values (rows_after step row_at inputs count last m) ≡ (row_at (after_steps step inputs count last m)).regs
+    last-regs zero last m some = absurd (omega (arith, some))
+    last-regs (suc count) last m some =
+        ap last_values (rows-more count last m)
+        ∙ fold-append (λ (values : List BitVector) (row : Row). row.regs) [] (rows_after step row_at inputs count last m) (row_at (after_steps step inputs (suc count) last m) ∷ [])
+
+    last-of : (P : Row → Type 0) (xs : List Row) (x : Row) → AllByRecursion P (xs ++ x ∷ []) → P x
+    last-of P [] x all = all.0
+    last-of P (y ∷ xs) x all = last-of P xs x all.1
+
+    -- what is true of each row of a run is true of the row of its last moment
+    pub row-of-last : (P : Row → Type 0) (first : M) (n : ℕ) → AllByRecursion P (rows_of step row_at inputs first n) → P (row_at (after_steps step inputs n 0 first))
+    row-of-last P first zero all = all.0
+    row-of-last P first (suc n) all =
+        last-of P (rows_after step row_at inputs n 0 first) (row_at (after_steps step inputs (suc n) 0 first))
+        (subst (AllByRecursion P) (rows-more n 0 first) all.1)
 
     run-front : (first : M) (k n : ℕ) → k ≤ n → rows_of step row_at inputs first k ≡ take (k + 1) (rows_of step row_at inputs first n)
     run-front first k n h =
@@ -109,6 +153,16 @@ module _ {M : Type 0} (step : M → List BitVector → M) (input_widths : M → 
       steps = is ∙ ap (after_steps step inputs (to - at) at) stands.steps ∙ steps-on step inputs at to first up ∙ ap (after_steps step inputs to 0) (sym kept);
       widths = stands.widths ∙ sym (ap input_widths is ∙ steps-keep step inputs input_widths keeps (to - at) at now);
     }
+
+    -- what is true of each row of the run is true of the rows of the moments after it
+    pub row-later : (row_at : M → Row) (P : Row → Type 0) → ((n : ℕ) → AllByRecursion P (rows_of step row_at inputs first n)) → (k : ℕ) → P (row_at (after_steps step inputs k at now))
+    row-later row_at P all k =
+        let count : at + k - at ≡ k = omega arith in
+        let same : after_steps step inputs k at now ≡ after_steps step inputs (at + k) 0 first =
+        ap (after_steps step inputs k at) stands.steps
+        ∙ ap (λ (n : ℕ). after_steps step inputs n at (after_steps step inputs at 0 first)) (sym count)
+        ∙ steps-on step inputs at (at + k) first (omega arith) in
+        subst (λ (m : M). P (row_at m)) (sym same) (row-of-last step inputs row_at P first (at + k) (all (at + k)))
 
   -- no batch changes what no step changes
   pub batch-keeps : {X : Type 0} (f : M → X) → ((m : M) (given : List BitVector) → f (step m given) ≡ f m) → (now next : M) (count at : ℕ) → next ≡ after_steps step inputs count at now → f next ≡ f now

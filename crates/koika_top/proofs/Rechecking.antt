@@ -1,5 +1,5 @@
 -- What a recheck makes of a source's parts, and how the rows of a run are reported at once.
-use Rattle.std.proofs.Common.{◌≡◌, ◌<◌, ℕ, List, [], ◌++◌, length, Option, Some, Result, refl, sym, ap, ap₂, subst, ◌∙◌, arith}
+use Rattle.std.proofs.Common.{◌≡◌, ◌<◌, ℕ, List, [], ◌++◌, length, Result, refl, sym, ap, ap₂, subst, ◌∙◌, arith}
 use Rattle.std.specs.Prelude.{IfOk}
 use Rattle.kw_base.specs.Fault.{IfFault}
 use Rattle.kw_base.specs.declared.fault.Fault.{Fault}
@@ -26,7 +26,7 @@ use Rattle.koika_top.specs.inner.Telling.{HasRows, TakesRows, ending_of, ending_
 use Rattle.koika_top.specs.declared.shown.Shown.{Shown}
 use Rattle.koika_top.specs.declared.shown.Shown.TheVariants.{Report, Summary}
 use Rattle.koika_top.specs.declared.teller.Form.{Form}
-use Rattle.koika_top.specs.declared.teller.Form.TheVariants.{OfReport, OfSummary, OfNothing}
+use Rattle.koika_top.specs.declared.teller.Form.TheVariants.{OfReport, OfSummary}
 use Rattle.koika_top.specs.declared.teller.Teller.{Teller}
 use Rattle.koika_top.proofs.Records.{if_ok}
 use Rattle.koika_top.proofs.TypedRows.{same-rows, typed-fit}
@@ -70,16 +70,15 @@ pub some-row : (d : Checked) (inputs : InputsByCycle) (cycles : ℕ) (rows : Lis
 some-row d inputs cycles rows is = subst (λ (all : List Row). 0 < length all) (sym is) (omega arith)
 
 -- a form that shows reports tells nothing after the last batch
-no-ending : (form : Form) → shown_by_form form ≡ Some Report → ending_of_form form ≡ []
+no-ending : (form : Form) → shown_by_form form ≡ Report → ending_of_form form ≡ []
 no-ending OfReport is = refl
 no-ending (OfSummary tally) is = let same : ◌≡◌ {A = Shown} Summary Report = cc in absurd cc
-no-ending OfNothing is = absurd cc
 
 -- all rows in one batch
-pub told-at-once : (teller next : Teller) (shape : Shape) (marks : Marks) (rows : List Row) (text ending : List ℕ) → HasRows teller shape marks [] → shown_by teller ≡ Some Report → TakesRows shape marks teller next rows
+pub told-at-once : (teller next : Teller) (shape : Shape) (marks : Marks) (rows : List Row) (text ending : List ℕ) → HasRows teller shape marks [] → shown_by teller ≡ Report → TakesRows shape marks teller next rows
     → text ≡ part_of_batch (shown_by teller) shape rows 0 → ending ≡ ending_of next → text ++ ending ≡ text_of_rows Report shape marks rows
 told-at-once teller next shape marks rows text ending none shown takes first last =
     let has = (takes.rows [] tt none).1 in
     ap₂ (λ (front back : List ℕ). front ++ back)
-    (first ∙ ap (λ (s : Option Shown). part_of_batch s shape rows 0) shown)
+    (first ∙ ap (λ (s : Shown). part_of_batch s shape rows 0) shown)
     (last ∙ ap₂ (λ (front back : List ℕ). front ++ back) (no-ending next.form (takes.same ∙ shown)) (ap watched_text has.1))

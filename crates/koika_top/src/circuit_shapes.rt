@@ -6,52 +6,28 @@ ghost use Rattle.koika_top.specs.CircuitShapes as shapes;
 ghost use Rattle.net_graph.specs.Nets.{widths_of};
 ghost use Rattle.std.specs.List.{filter};
 
-use circuit_eval::{Circuit, InputWire, OutputWire, StateWire};
+use circuit_eval::{Circuit, OutputWire};
 use kw_bits::{NoMemory, Sequence, Text};
 use net_graph::Net;
 use std::alloc::Global;
-use stim_report::{NameWidth, Shape};
+use stim_report::{NameWidth, Shape, try_map};
 
 /// What reports show of a circuit: its inputs, its states, and in place of rules its outputs of one bit.
 pub fn circuit_shape(alloc: Global, circuit: &Circuit) -> Result<Shape, NoMemory>
     ensures { IfOk result (λ shape. shape ≡ shapes.shape_of circuit.now) }
 {
-    let named = inputs(alloc, circuit.inputs.as_slice())?;
-    let kept = states(alloc, circuit.states.as_slice())?;
+    let inputs = try_map(alloc, circuit.inputs.as_slice(), |wire| {
+        NameWidth::of(alloc, wire.name.as_slice(), wire.width)
+    })?;
+    let registers = try_map(alloc, circuit.states.as_slice(), |wire| {
+        NameWidth::of(alloc, wire.name.as_slice(), wire.width)
+    })?;
     let rules = flags(alloc, &circuit.net, circuit.outputs.as_slice())?;
     Ok(Shape {
-        inputs: named,
-        registers: kept,
+        inputs,
+        registers,
         rules,
     })
-}
-
-fn inputs(alloc: Global, wires: &[InputWire]) -> Result<Sequence<NameWidth>, NoMemory>
-    ensures { IfOk result (λ named. named ≡ map shapes.of_input wires.now) }
-{
-    let mut named = Sequence::new(alloc);
-    for wire in wires {
-        let name = Text::from_slice(alloc, wire.name.as_slice())?;
-        named.push(NameWidth {
-            name,
-            width: wire.width,
-        })?;
-    }
-    Ok(named)
-}
-
-fn states(alloc: Global, wires: &[StateWire]) -> Result<Sequence<NameWidth>, NoMemory>
-    ensures { IfOk result (λ named. named ≡ map shapes.of_state wires.now) }
-{
-    let mut named = Sequence::new(alloc);
-    for wire in wires {
-        let name = Text::from_slice(alloc, wire.name.as_slice())?;
-        named.push(NameWidth {
-            name,
-            width: wire.width,
-        })?;
-    }
-    Ok(named)
 }
 
 // The names of the outputs of one bit.

@@ -25,7 +25,7 @@ use crate::teller::Teller;
 use crate::watch::watch_of;
 use crate::workers_engine::WorkersEngine;
 use attempt_log::{Gate, NoGate};
-use circuit_eval::Sim;
+use circuit_eval::WordSim;
 use front_end::{Lowered, Untold, fault_of_source, is_too_long_for, read_source};
 use host_fn::HostFn;
 use kw_base::{Refusal, fault_number};
@@ -105,7 +105,7 @@ impl Run {
         stimulus.recall();
         let lines = lines_of(alloc, &self.lowered)?;
         let circuit = read_again(alloc, &lines)?;
-        let sim = Sim::begin(alloc, &circuit)?;
+        let sim = WordSim::begin(alloc, &circuit)?;
         let mut engine = MachineEngine::begin(sim, stimulus);
         self.write_by(alloc, &NoGate, &mut engine, sink)
     }
@@ -165,7 +165,7 @@ impl Run {
         design.recall();
         stimulus.recall();
         let watch = watch_of(alloc, &lowered.checked)?;
-        let teller = Teller::new(alloc, &lowered.shape, Some(self.shown), watch)?;
+        let teller = Teller::new(alloc, &lowered.shape, self.shown, watch)?;
         tell(
             alloc,
             gate,

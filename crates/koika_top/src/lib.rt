@@ -7,7 +7,6 @@
 
 mod aig_run;
 mod aiger;
-mod bad_flags;
 mod circuit_read;
 mod circuit_run;
 mod circuit_shapes;
@@ -32,6 +31,7 @@ mod recheck;
 mod shown;
 mod tell;
 mod teller;
+mod text_circuit;
 mod usage;
 mod watch;
 mod words;

@@ -1,16 +1,21 @@
 //! Engines: the engine of a machine that runs step by step, such as a circuit or a graph of gates.
 
-ghost use Rattle.std.specs.Prelude.{◌≡◌};
+ghost use Rattle.std.specs.Prelude.{◌≡◌, ◌≤◌, ◌-◌, ℕ, OnOk};
+ghost use Rattle.circuit_eval.specs.Machines.{after_steps, rows_after};
 ghost use Rattle.one_rule.specs.Stimulus.{inputs_of};
+ghost use Rattle.stim_report.specs.Shapes.{RowFits};
 ghost use Rattle.koika_top.specs.inner.Engines.{StandsAfter, rows_of};
+ghost use Rattle.koika_top.specs.inner.Telling.{GoesOnFrom, closed, counted_all};
 
 use crate::engine::Engine;
+use crate::teller::Teller;
 use aig_blast::AigSim;
 use attempt_log::Gate;
-use circuit_eval::{Machine, Sim, run_machine};
+use circuit_eval::{Machine, WordSim, run_machine};
 use kw_bits::NoMemory;
 use one_rule::{Rows, Stimulus};
 use std::alloc::Global;
+use stim_report::Shape;
 
 /// A machine whose run has a beginning that no step changes.
 pub(crate) trait Begun: Machine {
@@ -24,7 +29,7 @@ pub(crate) trait Begun: Machine {
     ghost keeps_beginning: { (m : Self) (inputs : List BitVector) → beginning (Self.after_step m inputs) ≡ beginning m };
 }
 
-impl<'c> Begun for Sim<'c> {
+impl<'c> Begun for WordSim<'c> {
     ghost use Rattle.std.specs.Prelude.{refl};
     ghost use Rattle.circuit_eval.specs.Simulations.{beginning};
 
@@ -85,4 +90,51 @@ impl<'s, M: Begun> Engine for MachineEngine<'s, M> {
         self.at = to;
         Ok(rows)
     }
+
+    fn count(
+        &mut self,
+        alloc: Global,
+        _gate: &(dyn Gate + Sync),
+        from: u32,
+        to: u32,
+        shape: &Shape,
+        teller: &mut Teller,
+    ) -> Result<(), NoMemory> {
+        let stimulus: &Stimulus = self.stimulus;
+        count_cycles(alloc, &mut self.machine, stimulus, from, to, shape, teller)?;
+        self.at = to;
+        Ok(())
+    }
+}
+
+// Makes the steps of the cycles after one of them, up to another. A teller counts each by its flags, and then takes the
+// registers after the last. No row is made.
+fn count_cycles<M: Machine>(
+    alloc: Global,
+    machine: &mut M,
+    stimulus: &Stimulus,
+    from: u32,
+    to: u32,
+    shape: &Shape,
+    teller: &mut Teller,
+) -> Result<(), NoMemory>
+    requires widths { stimulus.now.widths ≡ M.input_widths machine.old }
+    requires order { from ≤ to }
+    requires few { to ≤ 16777216 }
+    requires goes_on { GoesOnFrom teller.old shape.now from }
+    requires fit { (k : ℕ) → RowFits shape.now.registers shape.now.rules
+        (M.row_at (after_steps M.after_step (inputs_of stimulus.now) k from machine.old)) }
+    ensures machine { OnOk result (machine.new ≡ after_steps M.after_step (inputs_of stimulus.now) (to - from) from machine.old) }
+    ensures teller { OnOk result (teller.new ≡ closed
+        (counted_all teller.old (rows_after M.after_step M.row_at (inputs_of stimulus.now) (to - from) from machine.old))
+        (M.row_at machine.new).regs) }
+{
+    let mut fired = machine.flags(alloc)?;
+    for last in from..to {
+        machine.step(&stimulus.inputs(last + 1)?);
+        machine.put_flags(&mut fired);
+        teller.count(&fired);
+    }
+    teller.close(machine.regs(alloc)?.as_slice());
+    Ok(())
 }

@@ -41,7 +41,7 @@ pub(crate) fn tell_shown<M: Begun + Drop, K: Sink>(
         (stream K.written K.faults sink.old sink.new) result }
 {
     let none = Watch::new(alloc, Sequence::new(alloc), Sequence::new(alloc))?;
-    let teller = Teller::new(alloc, shape, Some(shown), none)?;
+    let teller = Teller::new(alloc, shape, shown, none)?;
     tell_machine(alloc, machine, stimulus, cycles, shape, teller, sink)
 }
 

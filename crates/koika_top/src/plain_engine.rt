@@ -9,11 +9,13 @@ ghost use Rattle.koika_top.specs.inner.Engines.{HasRun};
 
 use crate::engine::Engine;
 use crate::last_row::{first_row, go_on, no_row};
+use crate::teller::Teller;
 use attempt_log::Gate;
 use kw_bits::NoMemory;
 use one_rule::{Externs, Row, Rows, Stimulus};
 use std::alloc::Global;
 use std::mem;
+use stim_report::Shape;
 use typed_core::Design;
 
 /// A design that runs rule by rule on a stimulus.
@@ -82,5 +84,19 @@ impl<'r> Engine for PlainEngine<'r> {
         self.last = last;
         self.at = to;
         Ok(rows)
+    }
+
+    fn count(
+        &mut self,
+        alloc: Global,
+        gate: &(dyn Gate + Sync),
+        from: u32,
+        to: u32,
+        shape: &Shape,
+        teller: &mut Teller,
+    ) -> Result<(), NoMemory> {
+        let rows = self.batch(alloc, gate, to)?;
+        let _text = teller.take(alloc, shape, &rows, from)?;
+        Ok(())
     }
 }

@@ -119,7 +119,7 @@ fn report_rows(alloc: Global, lowered: &Lowered, rows: &Rows) -> Result<Text, No
     ensures { IfOk result (λ text. text ≡ text_of_rows showns.Report lowered.now.shape (marks_of lowered.now.checked) rows.now) }
 {
     let watch = watch_of(alloc, &lowered.checked)?;
-    let mut teller = Teller::new(alloc, &lowered.shape, Some(Shown::Report), watch)?;
+    let mut teller = Teller::new(alloc, &lowered.shape, Shown::Report, watch)?;
     let mut text = teller.take(alloc, &lowered.shape, rows, 0)?;
     let ending = teller.ending(alloc)?;
     text.extend_from_slice(ending.as_slice())?;

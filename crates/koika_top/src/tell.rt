@@ -46,8 +46,42 @@ pub(crate) fn tell<E: Engine, K: Sink>(
     write_text(sink, ending.as_slice())
 }
 
-// Runs the cycles of a batch and tells its rows.
+// Runs the cycles of a batch, and writes what the teller tells of its rows now. Where it tells nothing before the end, it
+// takes the rows as the engine counts them.
 fn tell_batch<E: Engine, K: Sink>(
+    alloc: Global,
+    gate: &(dyn Gate + Sync),
+    engine: &mut E,
+    from: u32,
+    to: u32,
+    shape: &Shape,
+    teller: &mut Teller,
+    sink: &mut K,
+) -> Result<(), Untold>
+    requires stands { E.stands engine.old }
+    requires at { E.at engine.old ≡ from }
+    requires order { from ≤ to }
+    requires few { to ≤ 16777216 }
+    requires run { AreRows (E.rows_to engine.old) }
+    requires fit { (n : ℕ) → RowsFit shape.now (E.rows_to engine.old n) }
+    requires goes_on { GoesOnFrom teller.old shape.now from }
+    ensures same { OnOk result (E.rows_to engine.new ≡ E.rows_to engine.old) }
+    ensures at { OnOk result (E.at engine.new ≡ to) }
+    ensures stands { OnOk result (E.stands engine.new) }
+    ensures rows { OnOk result ((marks : Marks) →
+        TakesRows shape.now marks teller.old teller.new (drop from (E.rows_to engine.old to))) }
+    ensures told { Told (part_of_batch (shown_by teller.old) shape.now (drop from (E.rows_to engine.old to)) from)
+        (stream K.written K.faults sink.old sink.new) result }
+{
+    if teller.writes_rows() || from == to {
+        return tell_rows(alloc, gate, engine, from, to, shape, teller, sink);
+    }
+    engine.count(alloc, gate, from, to, shape, teller)?;
+    Ok(())
+}
+
+// Runs the cycles of a batch and tells its rows.
+fn tell_rows<E: Engine, K: Sink>(
     alloc: Global,
     gate: &(dyn Gate + Sync),
     engine: &mut E,

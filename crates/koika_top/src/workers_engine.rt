@@ -13,6 +13,7 @@ ghost use Rattle.koika_top.specs.inner.Engines.{HasRun};
 
 use crate::engine::Engine;
 use crate::last_row::{first_row, go_on, no_row};
+use crate::teller::Teller;
 use attempt_log::Gate;
 use board_lock::LockBoard;
 use cycle_driver::run_batch;
@@ -22,6 +23,7 @@ use std::alloc::Global;
 use std::mem;
 use std::sync::{Arc, Wait};
 use std::thread::Threads;
+use stim_report::Shape;
 use typed_core::Design;
 
 /// A design that workers run rule by rule on a stimulus. Each batch has a board and threads of its own.
@@ -106,6 +108,20 @@ impl<'r, R: Threads + Wait + Sync> Engine for WorkersEngine<'r, R> {
         self.last = last;
         self.at = to;
         Ok(rows)
+    }
+
+    fn count(
+        &mut self,
+        alloc: Global,
+        gate: &(dyn Gate + Sync),
+        from: u32,
+        to: u32,
+        shape: &Shape,
+        teller: &mut Teller,
+    ) -> Result<(), NoMemory> {
+        let rows = self.batch(alloc, gate, to)?;
+        let _text = teller.take(alloc, shape, &rows, from)?;
+        Ok(())
     }
 }
 
