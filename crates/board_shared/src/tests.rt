@@ -1,12 +1,8 @@
 //! Tests on boards of two rules, of which one sends a number and the other copies it.
 
 ghost use Rattle.std.specs.Prelude.{◌≡◌, ◌≤◌, [], ◌∷◌, map};
-ghost use Rattle.std.specs.Arc.{arc_value};
-ghost use Rattle.typed_core.specs.Valid.{externs_of};
 ghost use Rattle.kw_bits.specs.Laws.{HasWidth};
-ghost use Rattle.typed_core.specs.Widths.{HaveWidths, input_widths, register_widths};
-ghost use Rattle.one_rule.specs.Externs.{kept};
-ghost use Rattle.one_rule.specs.Stimulus.{StimulusFits};
+ghost use Rattle.typed_core.specs.Widths.{HaveWidths, input_widths};
 ghost use Rattle.attempt_log.specs.Seats.{IfJob};
 ghost use Rattle.attempt_log.specs.Setting.{FitsItself};
 
@@ -17,7 +13,7 @@ use crate::shared::{SharedBoard, SharedSeat};
 use attempt_log::{Attempt, JobAnswer, attempt};
 use board_core::Core;
 use kw_bits::{Bits, NoMemory, Sequence, Text};
-use one_rule::{Externs, Inputs, Regs, Stimulus, first_values};
+use one_rule::{Externs, Inputs, Stimulus, first_values};
 use std::alloc::{AllocError, Global};
 use std::marker::Brand;
 use std::process::Abort;
@@ -109,44 +105,20 @@ fn design_that_sends(rt: &impl Abort, alloc: Global, number: u128) -> Design
     Design::new(parts).expect(rt, "a valid design")
 }
 
-// What a core is begun with: a design on its first registers, and externs and a stimulus that fit it.
-#[derive(Drop)]
-struct Setting {
-    design: Arc<Design>,
-    externs: Arc<Externs>,
-    stimulus: Arc<Stimulus>,
-    regs: Regs,
-    ghost externs_fit: { kept (arc_value externs) ≡ externs_of (arc_value design) },
-    ghost stimulus_fits: { StimulusFits (arc_value design) (arc_value stimulus) },
-    ghost regs_fit: { HaveWidths (register_widths (arc_value design)) regs },
-    ghost one_input: { input_widths (arc_value design) ≡ 8 ∷ [] },
-}
-
-fn setting_that_sends(rt: &impl Abort, alloc: Global, number: u128) -> Setting {
+// A core of a design that sends this number, before its first cycle.
+fn core_that_sends(rt: &impl Abort, alloc: Global, number: u128, to: u32) -> Core
+    requires { to ≤ 1000 }
+    ensures { input_widths result.opening.design ≡ 8 ∷ [] }
+{
     let design = design_that_sends(rt, alloc, number);
     let externs = Externs::new(alloc, &design, &[]).expect(rt, MEMORY);
     let regs = first_values(alloc, &design).expect(rt, MEMORY);
     let mut widths = Vec::new(alloc);
     widths.push(8).expect(rt, MEMORY);
     let stimulus = Stimulus::new(alloc, widths);
-    Setting {
-        design: Arc::new(alloc, design).expect(rt, MEMORY),
-        externs: Arc::new(alloc, externs).expect(rt, MEMORY),
-        stimulus: Arc::new(alloc, stimulus).expect(rt, MEMORY),
-        regs,
-    }
-}
-
-fn core_that_sends(rt: &impl Abort, alloc: Global, number: u128, to: u32) -> Core
-    requires { to ≤ 1000 }
-    ensures { input_widths result.opening.design ≡ 8 ∷ [] }
-{
-    let Setting {
-        design,
-        externs,
-        stimulus,
-        regs,
-    } = setting_that_sends(rt, alloc, number);
+    let design = Arc::new(alloc, design).expect(rt, MEMORY);
+    let externs = Arc::new(alloc, externs).expect(rt, MEMORY);
+    let stimulus = Arc::new(alloc, stimulus).expect(rt, MEMORY);
     Core::begin(alloc, design, externs, stimulus, regs, 0, to, 1).expect(rt, MEMORY)
 }
 
