@@ -76,8 +76,8 @@ module _ (ps : List Part) (s : RuleSetting Stopped) (ports : PortsDo s.ports) (b
 
   pub apply-does : (o : Operation) (values : List Value) → DoesRun (own ps o) (apply s o values)
   apply-does (operation.Unary operators) values = run-value nothing _
-  apply-does (operation.Chain operators) [] = run-value nothing _
-  apply-does (operation.Chain operators) (v ∷ values) = run-value nothing _
+  apply-does (operation.Chain operators width) [] = run-value nothing _
+  apply-does (operation.Chain operators width) (v ∷ values) = run-value nothing _
   apply-does (operation.Select selections) [] = run-value nothing _
   apply-does (operation.Select selections) (v ∷ values) = run-value nothing _
   apply-does (operation.Update selection) [] = run-value nothing _

@@ -70,7 +70,7 @@ module _ (d : Checked) (n : ℕ) (ps : List Part) (bodies : (number : ℕ) → A
 
   own-right : (o : Operation) (ts : List ValueType) (of : Option ValueType) → Applies d n o ts of → AreRight d (own ps o)
   own-right (operation.Unary operators) ts of h = tt
-  own-right (operation.Chain operators) ts of h = tt
+  own-right (operation.Chain operators width) ts of h = tt
   own-right (operation.Select selections) ts of h = tt
   own-right (operation.Update selection) ts of h = tt
   own-right (operation.Struct number) ts of h = tt

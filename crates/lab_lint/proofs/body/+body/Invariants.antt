@@ -1,5 +1,6 @@
 use Rattle.std.proofs.Common.{◌≡◌, ◌+◌, ◌*◌, ◌++◌, length, map, sum_by, take}
-use Rattle.koika_check.proofs.TreeCounts.{calls, count, count_step}
+use Rattle.koika_check.proofs.TreeCounts.{count, count_step}
+use Rattle.koika_lower.proofs.CallCosts.{calls}
 use Rattle.lab_lint.specs.Occurrences.{bodies_before, in_turn, part_of}
 use Rattle.lab_lint.specs.inner.Occurrences.{part_of_step}
 use Rattle.lab_lint.proofs.body.+body.Given as goal
