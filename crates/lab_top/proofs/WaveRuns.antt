@@ -15,11 +15,11 @@ use Rattle.typed_core.specs.Valid.{IsValid}
 use Rattle.typed_core.specs.Widths.{HaveWidths}
 use Rattle.typed_core.specs.declared.design.Parts.{Parts}
 use Rattle.stim_report.specs.Batches.{joined, last_cycle}
-use Rattle.stim_report.specs.Shapes.{RowsFit, widths_of}
+use Rattle.stim_report.specs.Shapes.{RowsMatch, widths_of}
 use Rattle.stim_report.specs.Summary.{last_values}
 use Rattle.stim_report.specs.declared.shape.NameWidth.{NameWidth}
 use Rattle.stim_report.specs.declared.shape.Shape.{Shape}
-use Rattle.stim_report.proofs.ShapesOfDesigns.{rows_fit}
+use Rattle.stim_report.proofs.ShapesOfDesigns.{match_fit, rows_match}
 use Rattle.stim_report.proofs.TotalsOfBatches.{length-last_values}
 use Rattle.front_end.specs.Sources.{of_input, shape_of}
 use Rattle.front_end.specs.Systems as typed
@@ -70,12 +70,12 @@ module _ (d : Checked) (inputs : InputsByCycle) (n : ℕ) where
     taken-values = ap (λ (p : Progress). p.registers) rows
 
     -- there is a value for each register
-    pub taken-registers : RowsFit (shape_of d) (run_of d inputs n)
+    pub taken-registers : RowsMatch (shape_of d) (run_of d inputs n)
         → length now.registers ≡ length (shape_of d).registers
     taken-registers fit =
         let some : 1 ≤ length (run_of d inputs n) = omega (arith, rows-many) in
         ap length taken-values
-        ∙ length-last_values (shape_of d).registers (shape_of d).rules (run_of d inputs n) some fit
+        ∙ length-last_values (shape_of d).registers (shape_of d).rules (run_of d inputs n) some (match_fit (shape_of d).registers (shape_of d).rules (run_of d inputs n) fit)
 
 -- before all rows there is no cycle
 pub first-cycle : (shape : Shape) (inputs : InputsByCycle) (now : Progress)
@@ -131,15 +131,15 @@ module _ (d : Checked) (design : Parts) (lowered : IsLowered d design) (valid : 
     pub same-run : (n : ℕ) → core_run.run_of design inputs n ≡ run_of d inputs n
     same-run n = run-same d design lowered valid inputs fit n
 
-    -- rows of the design fit what texts tell of it
-    pub rows-fit : (rows : List Row) → core_rows.RowsFit design rows → RowsFit (shape_of d) rows
+    -- rows of the design match what texts tell of it
+    pub rows-fit : (rows : List Row) → core_rows.RowsFit design rows → RowsMatch (shape_of d) rows
     rows-fit rows all =
-        rows_fit design (shape_of d).registers (shape_of d).rules (registers-named d design lowered)
+        rows_match design (shape_of d).registers (shape_of d).rules (registers-named d design lowered)
         (rules-named d design lowered) rows all
 
-    pub run-fits : (n : ℕ) → RowsFit (shape_of d) (run_of d inputs n)
+    pub run-fits : (n : ℕ) → RowsMatch (shape_of d) (run_of d inputs n)
     run-fits n =
-        subst (RowsFit (shape_of d)) (same-run n)
+        subst (RowsMatch (shape_of d)) (same-run n)
         (rows-fit (core_run.run_of design inputs n)
         (runs_fit design inputs n valid (λ k low high. core-fit d design lowered valid inputs fit k)))
 

@@ -11,7 +11,7 @@ use Rattle.one_rule.specs.declared.rows.Row.{Row}
 use Rattle.typed_core.specs.Valid.{IsValid}
 use Rattle.typed_core.specs.Widths.{HaveWidths, input_widths, register_widths}
 use Rattle.typed_core.specs.declared.design.Parts.{Parts}
-use Rattle.stim_report.specs.Shapes.{RowsFit, widths_of}
+use Rattle.stim_report.specs.Shapes.{RowsMatch, widths_of}
 use Rattle.stim_report.specs.declared.shape.Shape.{Shape}
 use Rattle.front_end.specs.Sources.{shape_of}
 use Rattle.front_end.specs.Systems.{run_of}
@@ -66,9 +66,9 @@ module _ (it : Lowered) where
           (subst (HaveWidths (register_widths core)) (sym are)
           (left-fit core valid given (core-fit it.checked core it.lowered valid given fit) n))
 
-      pub made-fit : (rows : List Row) → core_rows.RowsFit design rows → RowsFit it.shape rows
+      pub made-fit : (rows : List Row) → core_rows.RowsFit design rows → RowsMatch it.shape rows
       made-fit rows all =
-          subst (λ (s : Shape). RowsFit s rows) (sym it.shape_fits)
+          subst (λ (s : Shape). RowsMatch s rows) (sym it.shape_fits)
           (rows-fit it.checked core it.lowered valid given fit rows
           (subst (λ (d : Parts). core_rows.RowsFit d rows) is all))
 
