@@ -10,7 +10,6 @@ ghost use Rattle.clause_check.specs.inner.Tokens.{AreWithin};
 use crate::database::Database;
 use crate::fault_number::{MALFORMED_STEP, NOT_REFUTED, WRONG_STEP};
 use crate::formula::Formula;
-use crate::literal::Literal;
 use crate::step::{Form, Lists, fault, read_step};
 use crate::values::Values;
 use kw_base::Refusal;
@@ -81,39 +80,32 @@ fn add_line(
     let form = read_step(variables, bytes, line, lists)?;
     match form {
         Form::Skips => Ok(()),
-        Form::Adds(number) => add(
-            alloc,
-            checker,
-            variables,
-            number,
-            lists.literals.as_slice(),
-            lists.numbers.as_slice(),
-            line,
-        ),
+        Form::Adds(number) => add(alloc, checker, variables, number, lists, line),
         Form::Drops => drop_all(alloc, checker, variables, lists.numbers.as_slice(), line),
     }
 }
 
-// Adds a clause, if its number is above all others and it follows by its hints.
+// Adds a clause with this number, if it is above all others and the clause follows by its hints.
 fn add(
     alloc: Global,
     checker: &mut Checker,
     variables: u32,
     number: u64,
-    clause: &[Literal],
-    hints: &[u64],
+    lists: &Lists,
     line: u32,
 ) -> Result<(), Refusal>
     requires ready { IsReady variables checker.old }
-    requires within { AreWithin variables clause.now }
-    ensures ok { OnOk result (added number clause.now hints.now (progress_of checker.old.database) ≡ Ok (progress_of checker.new.database)) }
+    requires within { AreWithin variables lists.now.literals.items }
+    ensures ok { OnOk result (added number lists.now.literals.items lists.now.numbers.items (progress_of checker.old.database) ≡ Ok (progress_of checker.new.database)) }
     ensures ready { OnOk result (IsReady variables checker.new) }
-    ensures fault { IfFault result (IsFaultOf line (added number clause.now hints.now (progress_of checker.old.database))) }
+    ensures fault { IfFault result (IsFaultOf line (added number lists.now.literals.items lists.now.numbers.items (progress_of checker.old.database))) }
 {
     let _variables = variables;
     if number <= checker.database.last {
         return Err(fault(MALFORMED_STEP, line));
     }
+    let clause = lists.literals.as_slice();
+    let hints = lists.numbers.as_slice();
     let follows = checker.values.follows(&checker.database, clause, hints)?;
     if !follows {
         return Err(fault(WRONG_STEP, line));

@@ -1,6 +1,5 @@
-use Rattle.std.proofs.Common.{None, Some, ℕ, List, ap, ap₂, sym, ◌∙◌}
+use Rattle.std.proofs.Common.{None, Some, ℕ, List, ap, sym, ◌∙◌}
 use Rattle.std.proofs.lemmas.Result.{err_from_is_err_and}
-use Rattle.clause_check.specs.Clauses.{Clause}
 use Rattle.clause_check.specs.Lines.{tokens_of}
 use Rattle.clause_check.specs.Refutations.{added, after_line, dropped}
 use Rattle.clause_check.specs.Steps.{step_of}
@@ -29,30 +28,28 @@ pub returns-in-Adds-clause-ok : goal.returns-in-Adds-clause-ok
 returns-in-Adds-clause-ok c =
     let lists = c.read_step.new.lists in
     let before = progress_of c.args.checker.now.database in
-    makes_ok c.add.result _ (added c.in-Adds.number c.as_slice.result.now c.as_slice-in-Adds.result.now before) (progress_of c.add.new.checker.database)
-    (line_makes c.args.variables c.args.bytes.now before _ (c.in_ok-form.ensures.read ∙ ap (λ (f : Form). Some (step_by f lists.literals.items lists.numbers.items)) c.in-Adds.is)
-    ∙ sym (ap₂ (λ (clause : Clause) (hints : List ℕ). added c.in-Adds.number clause hints before) c.as_slice.ensures.value c.as_slice-in-Adds.ensures.value)) c.add.ensures.ok
+    makes_ok c.add.result _ (added c.in-Adds.number lists.literals.items lists.numbers.items before) (progress_of c.add.new.checker.database)
+    (line_makes c.args.variables c.args.bytes.now before _ (c.in_ok-form.ensures.read ∙ ap (λ (f : Form). Some (step_by f lists.literals.items lists.numbers.items)) c.in-Adds.is)) c.add.ensures.ok
 
 pub returns-in-Adds-clause-fault : goal.returns-in-Adds-clause-fault
 returns-in-Adds-clause-fault c =
     let lists = c.read_step.new.lists in
     let before = progress_of c.args.checker.now.database in
-    makes_fault c.add.result c.args.line _ (added c.in-Adds.number c.as_slice.result.now c.as_slice-in-Adds.result.now before)
-    (line_makes c.args.variables c.args.bytes.now before _ (c.in_ok-form.ensures.read ∙ ap (λ (f : Form). Some (step_by f lists.literals.items lists.numbers.items)) c.in-Adds.is)
-    ∙ sym (ap₂ (λ (clause : Clause) (hints : List ℕ). added c.in-Adds.number clause hints before) c.as_slice.ensures.value c.as_slice-in-Adds.ensures.value)) c.add.ensures.fault
+    makes_fault c.add.result c.args.line _ (added c.in-Adds.number lists.literals.items lists.numbers.items before)
+    (line_makes c.args.variables c.args.bytes.now before _ (c.in_ok-form.ensures.read ∙ ap (λ (f : Form). Some (step_by f lists.literals.items lists.numbers.items)) c.in-Adds.is)) c.add.ensures.fault
 
 pub returns-in-Drops-clause-ok : goal.returns-in-Drops-clause-ok
 returns-in-Drops-clause-ok c =
     let lists = c.read_step.new.lists in
     let before = progress_of c.args.checker.now.database in
-    makes_ok c.drop_all.result _ (dropped c.as_slice-in-Drops.result.now before) (progress_of c.drop_all.new.checker.database)
+    makes_ok c.drop_all.result _ (dropped c.as_slice.result.now before) (progress_of c.drop_all.new.checker.database)
     (line_makes c.args.variables c.args.bytes.now before _ (c.in_ok-form.ensures.read ∙ ap (λ (f : Form). Some (step_by f lists.literals.items lists.numbers.items)) c.in-Drops.is)
-    ∙ sym (ap (λ (numbers : List ℕ). dropped numbers before) c.as_slice-in-Drops.ensures.value)) c.drop_all.ensures.ok
+    ∙ sym (ap (λ (numbers : List ℕ). dropped numbers before) c.as_slice.ensures.value)) c.drop_all.ensures.ok
 
 pub returns-in-Drops-clause-fault : goal.returns-in-Drops-clause-fault
 returns-in-Drops-clause-fault c =
     let lists = c.read_step.new.lists in
     let before = progress_of c.args.checker.now.database in
-    makes_fault c.drop_all.result c.args.line _ (dropped c.as_slice-in-Drops.result.now before)
+    makes_fault c.drop_all.result c.args.line _ (dropped c.as_slice.result.now before)
     (line_makes c.args.variables c.args.bytes.now before _ (c.in_ok-form.ensures.read ∙ ap (λ (f : Form). Some (step_by f lists.literals.items lists.numbers.items)) c.in-Drops.is)
-    ∙ sym (ap (λ (numbers : List ℕ). dropped numbers before) c.as_slice-in-Drops.ensures.value)) c.drop_all.ensures.fault
+    ∙ sym (ap (λ (numbers : List ℕ). dropped numbers before) c.as_slice.ensures.value)) c.drop_all.ensures.fault
