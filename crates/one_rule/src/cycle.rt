@@ -8,6 +8,7 @@ ghost use Rattle.one_rule.specs.Externs.{kept};
 ghost use Rattle.one_rule.specs.Cycle.{clash_with, clash_with_access, clash_with_events, cycle, fire, fires, flags, is_among, numbers, system_of, walk_of};
 ghost use Rattle.one_rule.specs.Walk.{goes_on, pass};
 
+use crate::evaluation::Environment;
 use crate::externs::Externs;
 use crate::rows::{FiredSet, Inputs, Regs, Row};
 use crate::rule::alone;
@@ -48,7 +49,12 @@ pub fn slow_cycle(
     ensures cycle { IfOk result (λ row. row ≡ cycle (system_of design.now) inputs.now regs.now) }
     ensures fits { IfOk result (λ row. RowFits design.now row) }
 {
-    let end = walk_of(alloc, design, externs, inputs, regs)?;
+    let env = Environment {
+        design,
+        externs,
+        inputs,
+    };
+    let end = walk_of(alloc, &env, regs)?;
     let fired = flags(alloc, design.rules.len(), &end.past)?;
     Ok(Row {
         regs: end.regs,
@@ -57,19 +63,14 @@ pub fn slow_cycle(
 }
 
 // The state at the end of a cycle's walk.
-fn walk_of(
-    alloc: Global,
-    design: &Design,
-    externs: &Externs,
-    inputs: &Inputs,
-    regs: &Regs,
-) -> Result<State, NoMemory>
-    requires externs { kept externs.now ≡ externs_of design.now }
-    requires inputs { HaveWidths (input_widths design.now) inputs.now }
-    requires registers { HaveWidths (register_widths design.now) regs.now }
-    ensures walk { IfOk result (λ end. end ≡ (walk_of (system_of design.now) inputs.now regs.now).state) }
-    ensures fits { IfOk result (λ end. HaveWidths (register_widths design.now) end.regs) }
+fn walk_of(alloc: Global, env: &Environment<Externs>, regs: &Regs) -> Result<State, NoMemory>
+    requires externs { kept env.now.externs.now ≡ externs_of env.now.design.now }
+    requires inputs { HaveWidths (input_widths env.now.design.now) env.now.inputs.now }
+    requires registers { HaveWidths (register_widths env.now.design.now) regs.now }
+    ensures walk { IfOk result (λ end. end ≡ (walk_of (system_of env.now.design.now) env.now.inputs.now regs.now).state) }
+    ensures fits { IfOk result (λ end. HaveWidths (register_widths env.now.design.now) end.regs) }
 {
+    let design = env.design;
     let nodes = design.nodes.as_slice();
     let mut state = State {
         regs: Sequence::from_slice(alloc, regs.as_slice())?,
@@ -77,7 +78,7 @@ fn walk_of(
     };
     let mut at = design.root();
     for (number, node) in nodes.iter().enumerate() {
-        at = pass(alloc, design, externs, inputs, number, node, at, &mut state)?;
+        at = pass(alloc, env, number, node, at, &mut state)?;
     }
     Ok(state)
 }
@@ -85,23 +86,21 @@ fn walk_of(
 // Visits the node of this number if the walk is at it, and says where the walk is then.
 fn pass(
     alloc: Global,
-    design: &Design,
-    externs: &Externs,
-    inputs: &Inputs,
+    env: &Environment<Externs>,
     number: usize,
     node: &Node,
     at: Next,
     state: &mut State,
 ) -> Result<Next, NoMemory>
-    requires externs { kept externs.now ≡ externs_of design.now }
-    requires rule { node.now.rule < length design.now.rules }
-    requires inputs { HaveWidths (input_widths design.now) inputs.now }
-    requires registers { HaveWidths (register_widths design.now) state.old.regs }
-    ensures pass { IfOk result (λ next. pass (fire (system_of design.now) inputs.now) number node.now (record { state = state.old; at = at }) ≡ record { state = state.new; at = next }) }
-    ensures fits { IfOk result (λ next. HaveWidths (register_widths design.now) state.new.regs) }
+    requires externs { kept env.now.externs.now ≡ externs_of env.now.design.now }
+    requires rule { node.now.rule < length env.now.design.now.rules }
+    requires inputs { HaveWidths (input_widths env.now.design.now) env.now.inputs.now }
+    requires registers { HaveWidths (register_widths env.now.design.now) state.old.regs }
+    ensures pass { IfOk result (λ next. pass (fire (system_of env.now.design.now) env.now.inputs.now) number node.now (record { state = state.old; at = at }) ≡ record { state = state.new; at = next }) }
+    ensures fits { IfOk result (λ next. HaveWidths (register_widths env.now.design.now) state.new.regs) }
 {
     if at.is_at(number) {
-        visit(alloc, design, externs, inputs, node, state)
+        visit(alloc, env, node, state)
     } else {
         Ok(at)
     }
@@ -110,20 +109,25 @@ fn pass(
 // Tries the rule of a node, and says where the walk goes on.
 fn visit(
     alloc: Global,
-    design: &Design,
-    externs: &Externs,
-    inputs: &Inputs,
+    env: &Environment<Externs>,
     node: &Node,
     state: &mut State,
 ) -> Result<Next, NoMemory>
-    requires externs { kept externs.now ≡ externs_of design.now }
-    requires rule { node.now.rule < length design.now.rules }
-    requires inputs { HaveWidths (input_widths design.now) inputs.now }
-    requires registers { HaveWidths (register_widths design.now) state.old.regs }
-    ensures visit { IfOk result (λ next. goes_on node.now state.old (fire (system_of design.now) inputs.now node.now.rule state.old) ≡ record { state = state.new; at = next }) }
-    ensures fits { IfOk result (λ next. HaveWidths (register_widths design.now) state.new.regs) }
+    requires externs { kept env.now.externs.now ≡ externs_of env.now.design.now }
+    requires rule { node.now.rule < length env.now.design.now.rules }
+    requires inputs { HaveWidths (input_widths env.now.design.now) env.now.inputs.now }
+    requires registers { HaveWidths (register_widths env.now.design.now) state.old.regs }
+    ensures visit { IfOk result (λ next. goes_on node.now state.old (fire (system_of env.now.design.now) env.now.inputs.now node.now.rule state.old) ≡ record { state = state.new; at = next }) }
+    ensures fits { IfOk result (λ next. HaveWidths (register_widths env.now.design.now) state.new.regs) }
 {
-    let run = alone(alloc, design, externs, node.rule, inputs, &state.regs)?;
+    let run = alone(
+        alloc,
+        env.design,
+        env.externs,
+        node.rule,
+        env.inputs,
+        &state.regs,
+    )?;
     if !fires(&state.past, &run) {
         return Ok(node.no);
     }

@@ -12,6 +12,7 @@ mod laws;
 mod rows;
 mod rule;
 mod stimulus;
+mod workload;
 
 pub use cycle::{Fired, State, slow_cycle};
 pub use evaluation::{Environment, Interrupt, Outside, Ports, evaluate};
@@ -26,3 +27,4 @@ pub use rows::{FiredSet, Inputs, Regs, Row, Rows, first_values, opening};
 pub use rule::{alone, note_write, outcome_of};
 pub use stimulus::Stimulus;
 pub use typed_core::{Alone, Outcome};
+pub use workload::Workload;

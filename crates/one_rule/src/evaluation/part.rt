@@ -64,15 +64,20 @@ pub(super) fn run<E: Outside, P: Ports>(
             End::Value
         }
         Action::One(operator, a) => unary(env, ports, *operator, a, locals, slot),
-        Action::Two(operator, a, b) => binary(env, ports, *operator, a, b, locals, slot),
-        Action::Slice(a, upper, lower) => slice(env, ports, a, *upper, *lower, locals, slot),
+        Action::Two(operator, a, b) => binary(env, ports, *operator, (a, b), locals, slot),
+        Action::Slice(a, upper, lower) => slice(env, ports, a, (*upper, *lower), locals, slot),
         Action::Zext(a, width) => zext(env, ports, a, *width, locals, slot),
         Action::Sext(a, width) => sext(env, ports, a, *width, locals, slot),
         Action::Table(table, a) => look(env, ports, *table, a, locals, slot),
         Action::Host(host, a) => ask(env, ports, *host, a, locals, slot),
         Action::Let(value, body) => bound(env, ports, value, body, locals, slot),
         Action::If(condition, first, second) => chosen(
-            env, ports, condition, first, second, locals, slot,
+            env,
+            ports,
+            condition,
+            (first, second),
+            locals,
+            slot,
         ),
         Action::Seq(first, second) => in_turn(env, ports, first, second, locals, slot),
         Action::Read(port, register) => {
@@ -82,7 +87,7 @@ pub(super) fn run<E: Outside, P: Ports>(
                 End::Interrupt
             }
         }
-        Action::Write(port, register, a) => write(env, ports, *port, *register, a, locals, slot),
+        Action::Write(port, register, a) => write(env, ports, (*port, *register), a, locals, slot),
         Action::Abort => {
             slot.interrupt = Interrupt::Stop(Stopped::Abort);
             End::Interrupt
@@ -173,19 +178,19 @@ fn binary<E: Outside, P: Ports>(
     env: &Environment<E>,
     ports: &mut P,
     operator: TwoOp,
-    a: &Action,
-    b: &Action,
+    operands: (&Action, &Action),
     locals: &Scope<Bits>,
     slot: &mut Slot,
 ) -> End
     requires fits { EnvironmentFits (declarations_of env.now) (environment_of E.kept env.now) }
     requires ports { AreReady (declarations_of env.now) (P.widths ports.old) (P.reading ports.old) (P.stands_for ports.old) }
-    requires ready { AreOperands (declarations_of env.now) operator a.now b.now locals.now }
+    requires ready { AreOperands (declarations_of env.now) operator operands.0.now operands.1.now locals.now }
     ensures leaves { (events : List Event) → P.stands_for ports.old events
-        → Leaves (P.stands_for ports.new) result slot.new (bind (core.evaluate (environment_of E.kept env.now) (P.reading ports.old) a.now locals.now) (λ x. bind (core.evaluate (environment_of E.kept env.now) (P.reading ports.old) b.now locals.now) (λ y. core.comes_to (core.apply_two operator x y))) events) }
+        → Leaves (P.stands_for ports.new) result slot.new (bind (core.evaluate (environment_of E.kept env.now) (P.reading ports.old) operands.entry.0.now locals.now) (λ x. bind (core.evaluate (environment_of E.kept env.now) (P.reading ports.old) operands.entry.1.now locals.now) (λ y. core.comes_to (core.apply_two operator x y))) events) }
     ensures reading { P.reading ports.new ≡ P.reading ports.old }
     ensures widths { P.widths ports.new ≡ P.widths ports.old }
 {
+    let (a, b) = operands;
     if !operand(env, ports, a, locals, slot) {
         return End::Interrupt;
     }
@@ -197,28 +202,28 @@ fn binary<E: Outside, P: Ports>(
     End::Value
 }
 
-// Some of the bits of an operand.
+// Some of the bits of an operand: from the lower to the upper bound, which comes first.
 #[cycle(run)]
 fn slice<E: Outside, P: Ports>(
     env: &Environment<E>,
     ports: &mut P,
     a: &Action,
-    upper: u32,
-    lower: u32,
+    bounds: (u32, u32),
     locals: &Scope<Bits>,
     slot: &mut Slot,
 ) -> End
     requires fits { EnvironmentFits (declarations_of env.now) (environment_of E.kept env.now) }
     requires ports { AreReady (declarations_of env.now) (P.widths ports.old) (P.reading ports.old) (P.stands_for ports.old) }
-    requires ready { HasOperand (declarations_of env.now) a.now locals.now (λ width. (lower ≤ upper) × (upper < width)) }
+    requires ready { HasOperand (declarations_of env.now) a.now locals.now (λ width. (bounds.1 ≤ bounds.0) × (bounds.0 < width)) }
     ensures leaves { (events : List Event) → P.stands_for ports.old events
-        → Leaves (P.stands_for ports.new) result slot.new (bind (core.evaluate (environment_of E.kept env.now) (P.reading ports.old) a.now locals.now) (λ x. core.comes_to (op.slice x upper lower)) events) }
+        → Leaves (P.stands_for ports.new) result slot.new (bind (core.evaluate (environment_of E.kept env.now) (P.reading ports.old) a.now locals.now) (λ x. core.comes_to (op.slice x bounds.0 bounds.1)) events) }
     ensures reading { P.reading ports.new ≡ P.reading ports.old }
     ensures widths { P.widths ports.new ≡ P.widths ports.old }
 {
     if !operand(env, ports, a, locals, slot) {
         return End::Interrupt;
     }
+    let (upper, lower) = bounds;
     slot.value = slot.value.slice(upper, lower);
     End::Value
 }
@@ -348,30 +353,30 @@ fn bound<E: Outside, P: Ports>(
     run(env, ports, body, &inner, slot)
 }
 
-// The first action where the condition is 1, the second where it is 0.
+// The first arm where the condition is 1, the second where it is 0.
 #[cycle(run)]
 fn chosen<E: Outside, P: Ports>(
     env: &Environment<E>,
     ports: &mut P,
     a: &Action,
-    first: &Action,
-    second: &Action,
+    arms: (&Action, &Action),
     locals: &Scope<Bits>,
     slot: &mut Slot,
 ) -> End
     requires fits { EnvironmentFits (declarations_of env.now) (environment_of E.kept env.now) }
     requires ports { AreReady (declarations_of env.now) (P.widths ports.old) (P.reading ports.old) (P.stands_for ports.old) }
     requires condition { CanBeOperand (declarations_of env.now) a.now locals.now }
-    requires first { CanEvaluate (declarations_of env.now) first.now locals.now }
-    requires second { CanEvaluate (declarations_of env.now) second.now locals.now }
+    requires first { CanEvaluate (declarations_of env.now) arms.0.now locals.now }
+    requires second { CanEvaluate (declarations_of env.now) arms.1.now locals.now }
     ensures leaves { (events : List Event) → P.stands_for ports.old events
-        → Leaves (P.stands_for ports.new) result slot.new (bind (core.evaluate (environment_of E.kept env.now) (P.reading ports.old) a.now locals.now) (λ x. core.choose x (core.evaluate (environment_of E.kept env.now) (P.reading ports.old) first.now locals.now) (core.evaluate (environment_of E.kept env.now) (P.reading ports.old) second.now locals.now)) events) }
+        → Leaves (P.stands_for ports.new) result slot.new (bind (core.evaluate (environment_of E.kept env.now) (P.reading ports.old) a.now locals.now) (λ x. core.choose x (core.evaluate (environment_of E.kept env.now) (P.reading ports.old) arms.entry.0.now locals.now) (core.evaluate (environment_of E.kept env.now) (P.reading ports.old) arms.entry.1.now locals.now)) events) }
     ensures reading { P.reading ports.new ≡ P.reading ports.old }
     ensures widths { P.widths ports.new ≡ P.widths ports.old }
 {
     if !operand(env, ports, a, locals, slot) {
         return End::Interrupt;
     }
+    let (first, second) = arms;
     if slot.value.number() == 0 {
         run(env, ports, second, locals, slot)
     } else {
@@ -425,29 +430,29 @@ fn read<P: Ports>(ports: &mut P, port: u32, register: u32, slot: &mut Slot) -> b
     }
 }
 
-// A write of a value to a register.
+// A write of a value to a register at a port, which comes first.
 #[cycle(run)]
 fn write<E: Outside, P: Ports>(
     env: &Environment<E>,
     ports: &mut P,
-    port: u32,
-    register: u32,
+    place: (u32, u32),
     a: &Action,
     locals: &Scope<Bits>,
     slot: &mut Slot,
 ) -> End
     requires fits { EnvironmentFits (declarations_of env.now) (environment_of E.kept env.now) }
     requires ports { AreReady (declarations_of env.now) (P.widths ports.old) (P.reading ports.old) (P.stands_for ports.old) }
-    requires port { IsPort port }
-    requires ready { HasOperand (declarations_of env.now) a.now locals.now (λ width. slice_get (declarations_of env.now).regs register ≡ Some width) }
+    requires port { IsPort place.0 }
+    requires ready { HasOperand (declarations_of env.now) a.now locals.now (λ width. slice_get (declarations_of env.now).regs place.1 ≡ Some width) }
     ensures leaves { (events : List Event) → P.stands_for ports.old events
-        → Leaves (P.stands_for ports.new) result slot.new (bind (core.evaluate (environment_of E.kept env.now) (P.reading ports.old) a.now locals.now) (λ value. (P.reading ports.old).write port register value) events) }
+        → Leaves (P.stands_for ports.new) result slot.new (bind (core.evaluate (environment_of E.kept env.now) (P.reading ports.old) a.now locals.now) (λ value. (P.reading ports.old).write place.0 place.1 value) events) }
     ensures reading { P.reading ports.new ≡ P.reading ports.old }
     ensures widths { P.widths ports.new ≡ P.widths ports.old }
 {
     if !operand(env, ports, a, locals, slot) {
         return End::Interrupt;
     }
+    let (port, register) = place;
     match ports.write(port, register, slot.value) {
         Ok(()) => End::Unit,
         Err(interrupt) => {

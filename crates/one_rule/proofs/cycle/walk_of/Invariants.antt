@@ -8,6 +8,6 @@ use Rattle.one_rule.proofs.cycle.walk_of.Given as goal
 abbrev pub invariant-loop-number : goal.invariant-loop-number
 invariant-loop-number l =
     record {
-      same : walk_past (fire (system_of l.design) l.inputs) l.number (drop l.number l.nodes) (record { state = l.state; at = l.at }) ≡ walk_of (system_of l.design) l.inputs l.regs;
-      registers : HaveWidths (register_widths l.design) l.state.regs;
+      same : walk_past (fire (system_of l.env.design.now) l.env.inputs.now) l.number (drop l.number l.nodes) (record { state = l.state; at = l.at }) ≡ walk_of (system_of l.env.design.now) l.env.inputs.now l.regs;
+      registers : HaveWidths (register_widths l.env.design.now) l.state.regs;
     }

@@ -31,13 +31,13 @@ abbrev pub decreases-write : goal.decreases-write
 decreases-write g l = 3 * size-Action l.a.now + 2
 
 abbrev pub decreases-binary : goal.decreases-binary
-decreases-binary g l = 3 * max (size-Action l.a.now) (size-Action l.b.now) + 2
+decreases-binary g l = 3 * max (size-Action l.operands.0.now) (size-Action l.operands.1.now) + 2
 
 abbrev pub decreases-bound : goal.decreases-bound
 decreases-bound g l = 3 * max (size-Action l.a.now) (size-Action l.body.now) + 2
 
 abbrev pub decreases-chosen : goal.decreases-chosen
-decreases-chosen g l = 3 * max (size-Action l.a.now) (max (size-Action l.first.now) (size-Action l.second.now)) + 2
+decreases-chosen g l = 3 * max (size-Action l.a.now) (max (size-Action l.arms.0.now) (size-Action l.arms.1.now)) + 2
 
 abbrev pub decreases-in_turn : goal.decreases-in_turn
 decreases-in_turn g l = 3 * max (size-Action l.first.now) (size-Action l.second.now) + 2
