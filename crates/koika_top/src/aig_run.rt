@@ -13,7 +13,7 @@ ghost use Rattle.koika_top.specs.inner.AigTexts.{HoldsGraph, HoldsGraphRun, show
 ghost use Rattle.front_end.specs.Told.{Told};
 
 use crate::circuit_run::fits;
-use crate::machine_run::tell_shown;
+use crate::machine_run::MachineRun;
 use crate::shown::Shown;
 use aig_blast::{Aig, AigSim};
 use aiger_text::{aig_shape, read_aiger};
@@ -64,15 +64,12 @@ impl AigRun {
     {
         self.aig.recall();
         let sim = AigSim::begin(alloc, &self.aig)?;
-        tell_shown(
-            alloc,
-            sim,
-            &self.stimulus,
-            self.cycles,
-            &self.shape,
-            self.shown,
-            sink,
-        )
+        let run = MachineRun {
+            machine: sim,
+            stimulus: &self.stimulus,
+            cycles: self.cycles,
+        };
+        run.tell_shown(alloc, &self.shape, self.shown, sink)
     }
 }
 

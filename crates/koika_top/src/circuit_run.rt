@@ -14,7 +14,7 @@ ghost use Rattle.front_end.specs.Sources.{fault_of_source};
 ghost use Rattle.front_end.specs.Streams.{stream};
 ghost use Rattle.front_end.specs.Told.{Told};
 
-use crate::machine_run::tell_machine;
+use crate::machine_run::MachineRun;
 use crate::shown::Shown;
 use crate::teller::Teller;
 use crate::text_circuit::{TextCircuit, bad_watch};
@@ -77,15 +77,12 @@ impl CircuitRun {
         let watch = bad_watch(alloc, self.shape.rules.len(), self.bads.as_slice())?;
         let teller = Teller::new(alloc, &self.shape, self.shown, watch)?;
         let sim = WordSim::begin(alloc, &self.circuit)?;
-        tell_machine(
-            alloc,
-            sim,
-            &self.stimulus,
-            self.cycles,
-            &self.shape,
-            teller,
-            sink,
-        )
+        let run = MachineRun {
+            machine: sim,
+            stimulus: &self.stimulus,
+            cycles: self.cycles,
+        };
+        run.tell(alloc, &self.shape, teller, sink)
     }
 }
 

@@ -28,13 +28,7 @@ pub(crate) trait Crew {
     ghost has: { Self → EngineKind → Type 0 };
 
     /// Makes a run by its engine and writes what is asked of it, batch by batch.
-    fn write<K: Sink>(
-        &self,
-        alloc: Global,
-        gate: &(dyn Gate + Sync),
-        work: &Work,
-        sink: &mut K,
-    ) -> Result<(), Untold>
+    fn write<K: Sink>(&self, alloc: Global, work: &Work, sink: &mut K) -> Result<(), Untold>
         requires ready { IsReady work.now }
         requires engine { has self.now (engine_of work.now) }
         ensures { IsWritten work.now (stream K.written K.faults sink.old sink.new) result };
@@ -44,10 +38,12 @@ pub(crate) trait Crew {
 #[derive(Drop)]
 pub(crate) struct Alone;
 
-/// The caller, and workers in threads where the engine is theirs.
+/// The caller, and where the engine is theirs workers in threads, which a gate may hold. The gate's type is a parameter,
+/// since no struct can have a field that refers to such an object.
 #[derive(Drop)]
-pub(crate) struct InThreads<'r, R: Threads + Wait + Sync> {
+pub(crate) struct InThreads<'r, R: Threads + Wait + Sync, G> {
     pub(crate) rt: &'r R,
+    pub(crate) gate: G,
 }
 
 impl Crew for Alone {
@@ -55,13 +51,7 @@ impl Crew for Alone {
 
     ghost has = { λ crew engine. IsAlone engine };
 
-    fn write<K: Sink>(
-        &self,
-        alloc: Global,
-        _gate: &(dyn Gate + Sync),
-        work: &Work,
-        sink: &mut K,
-    ) -> Result<(), Untold> {
+    fn write<K: Sink>(&self, alloc: Global, work: &Work, sink: &mut K) -> Result<(), Untold> {
         match work {
             Work::Shown(run) => match run.engine {
                 EngineKind::Plain => run.write_plain(alloc, sink),
@@ -73,26 +63,22 @@ impl Crew for Alone {
     }
 }
 
-impl<'r, R: Threads + Wait + Sync> Crew for InThreads<'r, R> {
+impl<'r, R: Threads + Wait + Sync> Crew for InThreads<'r, R, &'r (dyn Gate + Sync)> {
     ghost use Rattle.std.specs.Thread.{IsSync};
     ghost use Rattle.koika_top.specs.inner.Steps.{HasFewWorkers};
 
     ghost has = { λ crew engine. IsSync R.row × HasFewWorkers engine };
 
-    fn write<K: Sink>(
-        &self,
-        alloc: Global,
-        gate: &(dyn Gate + Sync),
-        work: &Work,
-        sink: &mut K,
-    ) -> Result<(), Untold> {
+    fn write<K: Sink>(&self, alloc: Global, work: &Work, sink: &mut K) -> Result<(), Untold> {
         match work {
             Work::Shown(run) => match run.engine {
                 EngineKind::Plain => run.write_plain(alloc, sink),
                 EngineKind::Circuit => run.write_circuit(alloc, sink),
-                EngineKind::Workers(count) => run.write_workers(self.rt, alloc, count, gate, sink),
+                EngineKind::Workers(count) => run.write_workers(
+                    self.rt, alloc, count, self.gate, sink,
+                ),
             },
-            Work::Journal(run) => run.write(self.rt, alloc, gate, sink),
+            Work::Journal(run) => run.write(self.rt, alloc, self.gate, sink),
         }
     }
 }

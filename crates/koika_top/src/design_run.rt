@@ -24,7 +24,7 @@ use crate::tell::tell;
 use crate::teller::Teller;
 use crate::watch::watch_of;
 use crate::workers_engine::WorkersEngine;
-use attempt_log::{Gate, NoGate};
+use attempt_log::Gate;
 use circuit_eval::WordSim;
 use front_end::{Lowered, Untold, fault_of_source, is_too_long_for, read_source};
 use host_fn::HostFn;
@@ -91,7 +91,7 @@ impl Run {
         design.recall();
         stimulus.recall();
         let mut engine = PlainEngine::begin(alloc, design, externs, stimulus)?;
-        self.write_by(alloc, &NoGate, &mut engine, sink)
+        self.write_by(alloc, &mut engine, sink)
     }
 
     /// By the circuit of the design, which is printed and read again.
@@ -107,7 +107,7 @@ impl Run {
         let circuit = read_again(alloc, &lines)?;
         let sim = WordSim::begin(alloc, &circuit)?;
         let mut engine = MachineEngine::begin(sim, stimulus);
-        self.write_by(alloc, &NoGate, &mut engine, sink)
+        self.write_by(alloc, &mut engine, sink)
     }
 
     /// By that many workers in threads, which a gate may hold.
@@ -131,22 +131,14 @@ impl Run {
         let stimulus: &Stimulus = &lowered.stimulus;
         design.recall();
         stimulus.recall();
-        let mut engine = WorkersEngine::begin(
-            rt,
-            alloc,
-            &lowered.design,
-            &lowered.externs,
-            &lowered.stimulus,
-            workers,
-        )?;
-        self.write_by(alloc, gate, &mut engine, sink)
+        let mut engine = WorkersEngine::begin(rt, alloc, gate, lowered, workers)?;
+        self.write_by(alloc, &mut engine, sink)
     }
 
     // By any engine that makes the design's run.
     fn write_by<E: Engine, K: Sink>(
         &self,
         alloc: Global,
-        gate: &(dyn Gate + Sync),
         engine: &mut E,
         sink: &mut K,
     ) -> Result<(), Untold>
@@ -166,14 +158,6 @@ impl Run {
         stimulus.recall();
         let watch = watch_of(alloc, &lowered.checked)?;
         let teller = Teller::new(alloc, &lowered.shape, self.shown, watch)?;
-        tell(
-            alloc,
-            gate,
-            engine,
-            self.cycles,
-            &lowered.shape,
-            teller,
-            sink,
-        )
+        tell(alloc, engine, self.cycles, &lowered.shape, teller, sink)
     }
 }

@@ -7,8 +7,8 @@ ghost use Rattle.koika_top.specs.inner.Telling.{GoesOnFrom, TakesRows};
 ghost use Rattle.one_rule.specs.declared.rows.Row.{Row};
 ghost use Rattle.stim_report.specs.Shapes.{RowsFit};
 
+use crate::ends::Ends;
 use crate::teller::Teller;
-use attempt_log::Gate;
 use kw_bits::NoMemory;
 use one_rule::Rows;
 use std::alloc::Global;
@@ -25,9 +25,8 @@ pub(crate) trait Engine {
     /// What it keeps between batches.
     ghost stands: { Self → Type 0 };
 
-    /// The rows from the cycle up to which it has run to this one, up to which it then has. The gate is for engines
-    /// that have workers. No struct can hold a reference to such an object, so each batch takes it.
-    fn batch(&mut self, alloc: Global, gate: &(dyn Gate + Sync), to: u32) -> Result<Rows, NoMemory>
+    /// The rows from the cycle up to which it has run to this one, up to which it then has.
+    fn batch(&mut self, alloc: Global, to: u32) -> Result<Rows, NoMemory>
         requires stands { stands self.old }
         requires order { at self.old ≤ to }
         requires few { to ≤ 16777216 }
@@ -41,21 +40,20 @@ pub(crate) trait Engine {
     fn count(
         &mut self,
         alloc: Global,
-        gate: &(dyn Gate + Sync),
-        from: u32,
-        to: u32,
+        ends: Ends,
         shape: &Shape,
         teller: &mut Teller,
     ) -> Result<(), NoMemory>
         requires stands { stands self.old }
-        requires at { at self.old ≡ from }
-        requires order { from < to }
-        requires few { to ≤ 16777216 }
+        requires at { at self.old ≡ ends.from }
+        requires order { ends.from < ends.to }
+        requires few { ends.to ≤ 16777216 }
         requires run { AreRows (rows_to self.old) }
         requires fit { (n : ℕ) → RowsFit shape.now (rows_to self.old n) }
-        requires goes_on { GoesOnFrom teller.old shape.now from }
+        requires goes_on { GoesOnFrom teller.old shape.now ends.from }
         ensures same { OnOk result (rows_to self.new ≡ rows_to self.old) }
-        ensures at { OnOk result (at self.new ≡ to) }
+        ensures at { OnOk result (at self.new ≡ ends.to) }
         ensures stands { OnOk result (stands self.new) }
-        ensures rows { OnOk result ((marks : Marks) → TakesRows shape.now marks teller.old teller.new (drop from (rows_to self.old to))) };
+        ensures rows { OnOk result ((marks : Marks) →
+            TakesRows shape.now marks teller.old teller.new (drop ends.from (rows_to self.old ends.to))) };
 }

@@ -19,6 +19,7 @@ ghost use Rattle.front_end.specs.Lengths.{is_too_long_for};
 ghost use Rattle.front_end.specs.Sources.{longest_source};
 ghost use Rattle.front_end.specs.Streams.{stream};
 
+use crate::ends::Ends;
 use crate::journaled::{Journaled, run_journal};
 use attempt_log::{Entry, Gate};
 use front_end::{
@@ -102,7 +103,7 @@ impl JournalRun {
         let mut from = 0;
         while from < self.cycles {
             let to = self.cycles.min(from + BATCH);
-            regs = self.write_batch(rt, alloc, gate, regs, from, to, sink)?;
+            regs = self.write_batch(rt, alloc, gate, regs, Ends { from, to }, sink)?;
             from = to;
         }
         Ok(())
@@ -116,21 +117,20 @@ impl JournalRun {
         alloc: Global,
         gate: &(dyn Gate + Sync),
         regs: Regs,
-        from: u32,
-        to: u32,
+        ends: Ends,
         sink: &mut K,
     ) -> Result<Regs, Untold>
         requires registers { HaveWidths (register_widths (arc_value self.now.lowered.design)) regs }
-        requires order { from < to }
-        requires last { to ≤ 16777216 }
+        requires order { ends.from < ends.to }
+        requires last { ends.to ≤ 16777216 }
         ensures batch { WritesBatch (arc_value self.now.lowered.design) (arc_value self.now.lowered.stimulus)
-            self.now.workers regs from to (stream K.written K.faults sink.old sink.new) result }
+            self.now.workers regs ends.from ends.to (stream K.written K.faults sink.old sink.new) result }
         ensures widths { IfOk result (HaveWidths (register_widths (arc_value self.now.lowered.design))) }
     {
         self.fits();
-        let made = self.make_batch(rt, alloc, gate, regs, from, to)?;
+        let made = self.make_batch(rt, alloc, gate, regs, ends)?;
         let left = last_regs(alloc, &made.rows)?;
-        let batch = batch_of(alloc, from, to, made.entries);
+        let batch = batch_of(alloc, ends, made.entries);
         let text = print_batch(alloc, &self.lowered.design, &batch)?;
         write_text(sink, text.as_slice())?;
         Ok(left)
@@ -143,17 +143,16 @@ impl JournalRun {
         alloc: Global,
         gate: &(dyn Gate + Sync),
         regs: Regs,
-        from: u32,
-        to: u32,
+        ends: Ends,
     ) -> Result<Journaled, NoMemory>
         requires registers { HaveWidths (register_widths (arc_value self.now.lowered.design)) regs }
-        requires order { from ≤ to }
-        requires last { to ≤ 16777216 }
+        requires order { ends.from ≤ ends.to }
+        requires last { ends.to ≤ 16777216 }
         ensures run { IfOk result (λ made. made.rows ≡ run (system_of (arc_value self.now.lowered.design))
-            (inputs_of (arc_value self.now.lowered.stimulus)) regs from to) }
+            (inputs_of (arc_value self.now.lowered.stimulus)) regs ends.from ends.to) }
         ensures fit { IfOk result (λ made. RowsFit (arc_value self.now.lowered.design) made.rows) }
-        ensures whole { IfOk result (λ made. IsWhole self.now.workers
-            (board_of (arc_value self.now.lowered.design) (arc_value self.now.lowered.stimulus) regs from to) made.entries) }
+        ensures whole { IfOk result (λ made. IsWhole self.now.workers (board_of (arc_value self.now.lowered.design)
+            (arc_value self.now.lowered.stimulus) regs ends.from ends.to) made.entries) }
     {
         self.fits();
         let design = Arc::try_clone(&self.lowered.design)?;
@@ -166,8 +165,8 @@ impl JournalRun {
             externs,
             stimulus,
             regs,
-            from,
-            to,
+            ends.from,
+            ends.to,
             self.workers,
             &gate,
         )
@@ -186,12 +185,12 @@ impl JournalRun {
 }
 
 // A batch that stands in no source yet.
-fn batch_of(alloc: Global, from: u32, to: u32, entries: Sequence<Entry>) -> Batch
-    ensures { result ≡ record { from = from; to = to; line = 0; entries = entries; lines = [] } }
+fn batch_of(alloc: Global, ends: Ends, entries: Sequence<Entry>) -> Batch
+    ensures { result ≡ record { from = ends.from; to = ends.to; line = 0; entries = entries; lines = [] } }
 {
     Batch {
-        from,
-        to,
+        from: ends.from,
+        to: ends.to,
         line: 0,
         entries,
         lines: Sequence::new(alloc),

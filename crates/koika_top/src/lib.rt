@@ -14,6 +14,7 @@ mod circuits;
 mod compile;
 mod crew;
 mod design_run;
+mod ends;
 mod engine;
 mod engine_kind;
 mod generator;

@@ -7,10 +7,10 @@ ghost use Rattle.stim_report.specs.Shapes.{RowFits};
 ghost use Rattle.koika_top.specs.inner.Engines.{StandsAfter, rows_of};
 ghost use Rattle.koika_top.specs.inner.Telling.{GoesOnFrom, closed, counted_all};
 
+use crate::ends::Ends;
 use crate::engine::Engine;
 use crate::teller::Teller;
 use aig_blast::AigSim;
-use attempt_log::Gate;
 use circuit_eval::{Machine, WordSim, run_machine};
 use kw_bits::NoMemory;
 use one_rule::{Rows, Stimulus};
@@ -80,12 +80,7 @@ impl<'s, M: Begun> Engine for MachineEngine<'s, M> {
 
     ghost stands = { λ e. StandsAfter M.after_step M.input_widths (M.beginning e.machine) e.machine e.stimulus.now e.at };
 
-    fn batch(
-        &mut self,
-        alloc: Global,
-        _gate: &(dyn Gate + Sync),
-        to: u32,
-    ) -> Result<Rows, NoMemory> {
+    fn batch(&mut self, alloc: Global, to: u32) -> Result<Rows, NoMemory> {
         let rows = run_machine(alloc, &mut self.machine, self.stimulus, self.at, to)?;
         self.at = to;
         Ok(rows)
@@ -94,15 +89,13 @@ impl<'s, M: Begun> Engine for MachineEngine<'s, M> {
     fn count(
         &mut self,
         alloc: Global,
-        _gate: &(dyn Gate + Sync),
-        from: u32,
-        to: u32,
+        ends: Ends,
         shape: &Shape,
         teller: &mut Teller,
     ) -> Result<(), NoMemory> {
         let stimulus: &Stimulus = self.stimulus;
-        count_cycles(alloc, &mut self.machine, stimulus, from, to, shape, teller)?;
-        self.at = to;
+        count_cycles(alloc, &mut self.machine, stimulus, ends, shape, teller)?;
+        self.at = ends.to;
         Ok(())
     }
 }
@@ -113,24 +106,25 @@ fn count_cycles<M: Machine>(
     alloc: Global,
     machine: &mut M,
     stimulus: &Stimulus,
-    from: u32,
-    to: u32,
+    ends: Ends,
     shape: &Shape,
     teller: &mut Teller,
 ) -> Result<(), NoMemory>
     requires widths { stimulus.now.widths ≡ M.input_widths machine.old }
-    requires order { from ≤ to }
-    requires few { to ≤ 16777216 }
-    requires goes_on { GoesOnFrom teller.old shape.now from }
+    requires order { ends.from ≤ ends.to }
+    requires few { ends.to ≤ 16777216 }
+    requires goes_on { GoesOnFrom teller.old shape.now ends.from }
     requires fit { (k : ℕ) → RowFits shape.now.registers shape.now.rules
-        (M.row_at (after_steps M.after_step (inputs_of stimulus.now) k from machine.old)) }
-    ensures machine { OnOk result (machine.new ≡ after_steps M.after_step (inputs_of stimulus.now) (to - from) from machine.old) }
+        (M.row_at (after_steps M.after_step (inputs_of stimulus.now) k ends.from machine.old)) }
+    ensures machine { OnOk result (machine.new
+        ≡ after_steps M.after_step (inputs_of stimulus.now) (ends.to - ends.from) ends.from machine.old) }
     ensures teller { OnOk result (teller.new ≡ closed
-        (counted_all teller.old (rows_after M.after_step M.row_at (inputs_of stimulus.now) (to - from) from machine.old))
+        (counted_all teller.old
+        (rows_after M.after_step M.row_at (inputs_of stimulus.now) (ends.to - ends.from) ends.from machine.old))
         (M.row_at machine.new).regs) }
 {
     let mut fired = machine.flags(alloc)?;
-    for last in from..to {
+    for last in ends.from..ends.to {
         machine.step(&stimulus.inputs(last + 1)?);
         machine.put_flags(&mut fired);
         teller.count(&fired);

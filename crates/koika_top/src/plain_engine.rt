@@ -7,10 +7,10 @@ ghost use Rattle.one_rule.specs.Stimulus.{StimulusFits, inputs_of};
 ghost use Rattle.typed_core.specs.Valid.{externs_of};
 ghost use Rattle.koika_top.specs.inner.Engines.{HasRun};
 
+use crate::ends::Ends;
 use crate::engine::Engine;
 use crate::last_row::{first_row, go_on, no_row};
 use crate::teller::Teller;
-use attempt_log::Gate;
 use kw_bits::NoMemory;
 use one_rule::{Externs, Row, Rows, Stimulus};
 use std::alloc::Global;
@@ -64,12 +64,7 @@ impl<'r> Engine for PlainEngine<'r> {
 
     ghost stands = { λ e. HasRun e.design.now e.stimulus.now e.at e.last };
 
-    fn batch(
-        &mut self,
-        alloc: Global,
-        _gate: &(dyn Gate + Sync),
-        to: u32,
-    ) -> Result<Rows, NoMemory> {
+    fn batch(&mut self, alloc: Global, to: u32) -> Result<Rows, NoMemory> {
         let mut rows = plain_run::run_from(
             alloc,
             self.design,
@@ -89,14 +84,12 @@ impl<'r> Engine for PlainEngine<'r> {
     fn count(
         &mut self,
         alloc: Global,
-        gate: &(dyn Gate + Sync),
-        from: u32,
-        to: u32,
+        ends: Ends,
         shape: &Shape,
         teller: &mut Teller,
     ) -> Result<(), NoMemory> {
-        let rows = self.batch(alloc, gate, to)?;
-        let _text = teller.take(alloc, shape, &rows, from)?;
+        let rows = self.batch(alloc, ends.to)?;
+        let _text = teller.take(alloc, shape, &rows, ends.from)?;
         Ok(())
     }
 }

@@ -34,7 +34,7 @@ use crate::recheck::recheck_source;
 use crate::shown::Shown;
 use crate::usage::write_usage;
 use crate::words::{Command, asks_workers, command_of};
-use attempt_log::{Gate, NoGate};
+use attempt_log::Gate;
 use front_end::{Status, fault_of_source, status_by, write_made, write_refusal};
 use host_fn::HostFn;
 use kw_base::{Refusal, fault_number};
@@ -62,7 +62,9 @@ pub fn run<S: Source, K: Sink, R: Threads + Wait + Sync>(
         (stream S.left S.faults source.old source.new) (stream K.written K.faults sink.old sink.new) result) }
 {
     if asks_workers(words) {
-        answer_words(&InThreads { rt }, alloc, words, hosts, gate, source, sink)
+        let crew = InThreads { rt, gate };
+        let host = Host { crew, alloc, hosts };
+        host.answer_words(words, source, sink)
     } else {
         run_here(alloc, words, hosts, source, sink)
     }
@@ -80,101 +82,148 @@ pub fn run_here<S: Source, K: Sink>(
     ensures { IsKept (source.new ≡ source.old) (call (map string_bytes words.now) (host_specs hosts.now)
         (stream S.left S.faults source.old source.new) (stream K.written K.faults sink.old sink.new) result) }
 {
-    answer_words(&Alone, alloc, words, hosts, &NoGate, source, sink)
+    let crew = Alone;
+    let host = Host { crew, alloc, hosts };
+    host.answer_words(words, source, sink)
 }
 
-// Does what the words ask for, and writes the answer. A crew makes the run, if they ask for one.
-fn answer_words<S: Source, K: Sink, C: Crew>(
-    crew: &C,
+// What the program runs on: who makes runs, the allocator, and the host functions that designs may declare.
+#[derive(Drop)]
+struct Host<'h, C> {
+    crew: C,
     alloc: Global,
-    words: &[String],
-    hosts: &[HostFn],
-    gate: &(dyn Gate + Sync),
-    source: &mut S,
-    sink: &mut K,
-) -> Status
-    requires crew { AskFor (C.has crew.now) (map string_bytes words.now) }
-    ensures { IsKept (source.new ≡ source.old) (call (map string_bytes words.now) (host_specs hosts.now)
-        (stream S.left S.faults source.old source.new) (stream K.written K.faults sink.old sink.new) result) }
-{
-    match command_of(alloc, words) {
-        Ok(None) => write_usage(sink),
-        Ok(Some(command)) => {
-            if command.reads_source() {
-                answer_source(crew, alloc, command, hosts, gate, source, sink)
-            } else {
-                answer_bytes(crew, alloc, command, hosts, gate, &[], sink)
+    hosts: &'h [HostFn],
+}
+
+impl<'h, C: Crew> Host<'h, C> {
+    // Does what the words ask for, and writes the answer. A crew makes the run, if they ask for one.
+    fn answer_words<S: Source, K: Sink>(
+        &self,
+        words: &[String],
+        source: &mut S,
+        sink: &mut K,
+    ) -> Status
+        requires crew { AskFor (C.has self.now.crew) (map string_bytes words.now) }
+        ensures { IsKept (source.new ≡ source.old) (call (map string_bytes words.now) (host_specs self.now.hosts.now)
+            (stream S.left S.faults source.old source.new) (stream K.written K.faults sink.old sink.new) result) }
+    {
+        match command_of(self.alloc, words) {
+            Ok(None) => write_usage(sink),
+            Ok(Some(command)) => {
+                if command.reads_source() {
+                    self.answer_source(command, source, sink)
+                } else {
+                    self.answer_bytes(command, &[], sink)
+                }
+            }
+            Err(NoMemory) => Status::NoMemory,
+        }
+    }
+
+    // Reads the source and does what the command asks for, or writes that the source is too long.
+    fn answer_source<S: Source, K: Sink>(
+        &self,
+        command: Command,
+        source: &mut S,
+        sink: &mut K,
+    ) -> Status
+        requires few { IsInRange command }
+        requires crew { RunsBy (C.has self.now.crew) command }
+        requires reads { is_of_source command ≡ true }
+        ensures tells { TellsRead IsReply (S.left source.old) (Answers (host_specs self.now.hosts.now) command)
+            (stream K.written K.faults sink.old sink.new) result }
+        ensures whole { result ≡ Status.Done → IfSome (S.left source.old) (λ _. S.left source.new ≡ Some []) }
+        ensures read_fault { result ≡ Status.ReadFault → Rose (S.faults source.old) (S.faults source.new) }
+    {
+        match read_all(self.alloc, source, command.longest_source()) {
+            Ok(bytes) => self.answer_bytes(command, &bytes, sink),
+            Err(ReadAll::TooLong) => {
+                let fault = fault_of_source(fault_number::SOURCE_TOO_LONG);
+                write_refusal(self.alloc, Refusal::Fault(fault), sink)
+            }
+            Err(ReadAll::Fault) => Status::ReadFault,
+            Err(ReadAll::NoMemory) => Status::NoMemory,
+        }
+    }
+
+    // Does what the command asks for, given the bytes of the source, if its answer rests on one.
+    fn answer_bytes<K: Sink>(&self, command: Command, source: &[u8], sink: &mut K) -> Status
+        requires short { length source.now ≤ longest_of command }
+        requires few { IsInRange command }
+        requires crew { RunsBy (C.has self.now.crew) command }
+        ensures { Tells (Answers (host_specs self.now.hosts.now) command source.now)
+            (stream K.written K.faults sink.old sink.new) result }
+    {
+        let alloc = self.alloc;
+        let hosts = self.hosts;
+        match command {
+            Command::Check => write_made(alloc, check_source(alloc, hosts, source), sink),
+            Command::Print => write_made(alloc, print_source(alloc, source), sink),
+            Command::Sim {
+                cycles,
+                shown,
+                engine,
+            } => self.simulate(cycles, shown, engine, source, sink),
+            Command::Btorsim { cycles, shown } => {
+                simulate_circuit(alloc, cycles, shown, source, sink)
+            }
+            Command::Compile => write_made(alloc, compile_source(alloc, hosts, source), sink),
+            Command::Gen { stages } => write_made(alloc, generate(alloc, stages), sink),
+            Command::Aiger => write_made(alloc, convert_source(alloc, hosts, source), sink),
+            Command::Aigsim { cycles, shown } => simulate_bits(alloc, cycles, shown, source, sink),
+            Command::Journal { cycles, workers } => {
+                self.write_journal(cycles, workers, source, sink)
+            }
+            Command::Recheck { cycles } => {
+                write_made(alloc, recheck_source(alloc, hosts, cycles, source), sink)
             }
         }
-        Err(NoMemory) => Status::NoMemory,
     }
-}
 
-// Reads the source and does what the command asks for, or writes that the source is too long.
-fn answer_source<S: Source, K: Sink, C: Crew>(
-    crew: &C,
-    alloc: Global,
-    command: Command,
-    hosts: &[HostFn],
-    gate: &(dyn Gate + Sync),
-    source: &mut S,
-    sink: &mut K,
-) -> Status
-    requires few { IsInRange command }
-    requires crew { RunsBy (C.has crew.now) command }
-    requires reads { is_of_source command ≡ true }
-    ensures tells { TellsRead IsReply (S.left source.old) (Answers (host_specs hosts.now) command)
-        (stream K.written K.faults sink.old sink.new) result }
-    ensures whole { result ≡ Status.Done → IfSome (S.left source.old) (λ _. S.left source.new ≡ Some []) }
-    ensures read_fault { result ≡ Status.ReadFault → Rose (S.faults source.old) (S.faults source.new) }
-{
-    match read_all(alloc, source, command.longest_source()) {
-        Ok(bytes) => answer_bytes(crew, alloc, command, hosts, gate, &bytes, sink),
-        Err(ReadAll::TooLong) => {
-            let fault = fault_of_source(fault_number::SOURCE_TOO_LONG);
-            write_refusal(alloc, Refusal::Fault(fault), sink)
+    // Runs the design of a source by an engine and writes what is shown of the run, or the line of the source's fault.
+    fn simulate<K: Sink>(
+        &self,
+        cycles: u32,
+        shown: Shown,
+        engine: EngineKind,
+        source: &[u8],
+        sink: &mut K,
+    ) -> Status
+        requires short { length source.now ≤ longest_source }
+        requires crew { C.has self.now.crew engine }
+        ensures { Tells (AnswersSim (host_specs self.now.hosts.now) cycles shown source.now)
+            (stream K.written K.faults sink.old sink.new) result }
+    {
+        match Run::read(self.alloc, cycles, shown, engine, self.hosts, source) {
+            Ok(run) => status_by(
+                self.crew.write(self.alloc, &Work::Shown(run), sink),
+                Status::Done,
+            ),
+            Err(refusal) => write_refusal(self.alloc, refusal, sink),
         }
-        Err(ReadAll::Fault) => Status::ReadFault,
-        Err(ReadAll::NoMemory) => Status::NoMemory,
     }
-}
 
-// Does what the command asks for, given the bytes of the source, if its answer rests on one.
-fn answer_bytes<K: Sink, C: Crew>(
-    crew: &C,
-    alloc: Global,
-    command: Command,
-    hosts: &[HostFn],
-    gate: &(dyn Gate + Sync),
-    source: &[u8],
-    sink: &mut K,
-) -> Status
-    requires short { length source.now ≤ longest_of command }
-    requires few { IsInRange command }
-    requires crew { RunsBy (C.has crew.now) command }
-    ensures { Tells (Answers (host_specs hosts.now) command source.now)
-        (stream K.written K.faults sink.old sink.new) result }
-{
-    match command {
-        Command::Check => write_made(alloc, check_source(alloc, hosts, source), sink),
-        Command::Print => write_made(alloc, print_source(alloc, source), sink),
-        Command::Sim {
-            cycles,
-            shown,
-            engine,
-        } => simulate(
-            crew, alloc, cycles, shown, engine, hosts, gate, source, sink,
-        ),
-        Command::Btorsim { cycles, shown } => simulate_circuit(alloc, cycles, shown, source, sink),
-        Command::Compile => write_made(alloc, compile_source(alloc, hosts, source), sink),
-        Command::Gen { stages } => write_made(alloc, generate(alloc, stages), sink),
-        Command::Aiger => write_made(alloc, convert_source(alloc, hosts, source), sink),
-        Command::Aigsim { cycles, shown } => simulate_bits(alloc, cycles, shown, source, sink),
-        Command::Journal { cycles, workers } => {
-            write_journal(crew, alloc, cycles, workers, hosts, gate, source, sink)
-        }
-        Command::Recheck { cycles } => {
-            write_made(alloc, recheck_source(alloc, hosts, cycles, source), sink)
+    // Has workers run the design of a source and writes the journal of the run, or the line of the source's fault.
+    fn write_journal<K: Sink>(
+        &self,
+        cycles: u32,
+        workers: u32,
+        source: &[u8],
+        sink: &mut K,
+    ) -> Status
+        requires short { length source.now ≤ longest_source }
+        requires some { 1 ≤ workers }
+        requires most { workers ≤ 8 }
+        requires crew { C.has self.now.crew (Workers workers) }
+        ensures { Tells (AnswersJournal (host_specs self.now.hosts.now) cycles workers source.now)
+            (stream K.written K.faults sink.old sink.new) result }
+    {
+        match JournalRun::read(self.alloc, cycles, workers, self.hosts, source) {
+            Ok(run) => status_by(
+                self.crew.write(self.alloc, &Work::Journal(run), sink),
+                Status::Done,
+            ),
+            Err(refusal) => write_refusal(self.alloc, refusal, sink),
         }
     }
 }
@@ -185,59 +234,6 @@ fn generate(alloc: Global, stages: u32) -> Result<Text, Refusal>
     ensures { Makes (λ answer. answer ≡ Written (pipeline stages)) result }
 {
     Ok(pipeline(alloc, stages)?)
-}
-
-// Runs the design of a source by an engine and writes what is shown of the run, or the line of the source's fault.
-fn simulate<K: Sink, C: Crew>(
-    crew: &C,
-    alloc: Global,
-    cycles: u32,
-    shown: Shown,
-    engine: EngineKind,
-    hosts: &[HostFn],
-    gate: &(dyn Gate + Sync),
-    source: &[u8],
-    sink: &mut K,
-) -> Status
-    requires short { length source.now ≤ longest_source }
-    requires crew { C.has crew.now engine }
-    ensures { Tells (AnswersSim (host_specs hosts.now) cycles shown source.now)
-        (stream K.written K.faults sink.old sink.new) result }
-{
-    match Run::read(alloc, cycles, shown, engine, hosts, source) {
-        Ok(run) => status_by(
-            crew.write(alloc, gate, &Work::Shown(run), sink),
-            Status::Done,
-        ),
-        Err(refusal) => write_refusal(alloc, refusal, sink),
-    }
-}
-
-// Has workers run the design of a source and writes the journal of the run, or the line of the source's fault.
-fn write_journal<K: Sink, C: Crew>(
-    crew: &C,
-    alloc: Global,
-    cycles: u32,
-    workers: u32,
-    hosts: &[HostFn],
-    gate: &(dyn Gate + Sync),
-    source: &[u8],
-    sink: &mut K,
-) -> Status
-    requires short { length source.now ≤ longest_source }
-    requires some { 1 ≤ workers }
-    requires most { workers ≤ 8 }
-    requires crew { C.has crew.now (Workers workers) }
-    ensures { Tells (AnswersJournal (host_specs hosts.now) cycles workers source.now)
-        (stream K.written K.faults sink.old sink.new) result }
-{
-    match JournalRun::read(alloc, cycles, workers, hosts, source) {
-        Ok(run) => status_by(
-            crew.write(alloc, gate, &Work::Journal(run), sink),
-            Status::Done,
-        ),
-        Err(refusal) => write_refusal(alloc, refusal, sink),
-    }
 }
 
 // Runs the BTOR2 text of a source and writes what is shown of the run, or the line of the source's fault.

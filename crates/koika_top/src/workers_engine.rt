@@ -2,73 +2,68 @@
 
 ghost use Rattle.std.specs.Prelude.{◌≡◌, ◌≤◌, IfOk};
 ghost use Rattle.std.specs.Arc.{arc_value};
+ghost use Rattle.std.specs.Thread.{IsSync};
 ghost use Rattle.one_rule.specs.Cycle.{system_of};
-ghost use Rattle.one_rule.specs.Externs.{kept};
 ghost use Rattle.one_rule.specs.Rows.{RowsFit};
 ghost use Rattle.one_rule.specs.Run.{run, run_of};
 ghost use Rattle.one_rule.specs.Stimulus.{StimulusFits, inputs_of};
-ghost use Rattle.typed_core.specs.Valid.{externs_of};
 ghost use Rattle.typed_core.specs.Widths.{HaveWidths, register_widths};
 ghost use Rattle.koika_top.specs.inner.Engines.{HasRun};
 
+use crate::ends::Ends;
 use crate::engine::Engine;
 use crate::last_row::{first_row, go_on, no_row};
 use crate::teller::Teller;
 use attempt_log::Gate;
 use board_lock::LockBoard;
 use cycle_driver::run_batch;
+use front_end::Lowered;
 use kw_bits::NoMemory;
-use one_rule::{Externs, Regs, Row, Rows, Stimulus};
+use one_rule::{Regs, Row, Rows};
 use std::alloc::Global;
 use std::mem;
 use std::sync::{Arc, Wait};
 use std::thread::Threads;
 use stim_report::Shape;
-use typed_core::Design;
 
-/// A design that workers run rule by rule on a stimulus. Each batch has a board and threads of its own.
+/// A design that workers, which a gate may hold, run rule by rule on a stimulus. Each batch has a board and threads of
+/// its own.
 #[derive(Drop)]
-pub(crate) struct WorkersEngine<'r, R> {
+pub(crate) struct WorkersEngine<'r, R, G> {
     rt: &'r R,
-    design: &'r Arc<Design>,
-    externs: &'r Arc<Externs>,
-    stimulus: &'r Arc<Stimulus>,
+    gate: G,
+    lowered: &'r Lowered,
     workers: u32,
     // The row of the cycle up to which it has run.
     last: Row,
     at: u32,
-    ghost externs_fit: { kept (arc_value externs.now) ≡ externs_of (arc_value design.now) },
-    ghost stimulus_fits: { StimulusFits (arc_value design.now) (arc_value stimulus.now) },
+    ghost stimulus_fits: { StimulusFits (arc_value lowered.now.design) (arc_value lowered.now.stimulus) },
     ghost some: { 1 ≤ workers },
     ghost most: { workers ≤ 64 },
 }
 
-impl<'r, R> WorkersEngine<'r, R> {
+impl<'r, R, G: Drop> WorkersEngine<'r, R, G> {
     /// Before all cycles. It waits for nobody.
     pub(crate) fn begin(
         rt: &'r R,
         alloc: Global,
-        design: &'r Arc<Design>,
-        externs: &'r Arc<Externs>,
-        stimulus: &'r Arc<Stimulus>,
+        gate: G,
+        lowered: &'r Lowered,
         workers: u32,
-    ) -> Result<WorkersEngine<'r, R>, NoMemory>
-        requires externs { kept (arc_value externs.now) ≡ externs_of (arc_value design.now) }
-        requires stimulus { StimulusFits (arc_value design.now) (arc_value stimulus.now) }
+    ) -> Result<WorkersEngine<'r, R, G>, NoMemory>
+        requires stimulus { StimulusFits (arc_value lowered.now.design) (arc_value lowered.now.stimulus) }
         requires some { 1 ≤ workers }
         requires most { workers ≤ 64 }
-        ensures design { IfOk result (λ engine. engine.design.now ≡ design.now) }
-        ensures stimulus { IfOk result (λ engine. engine.stimulus.now ≡ stimulus.now) }
+        ensures lowered { IfOk result (λ engine. engine.lowered.now ≡ lowered.now) }
         ensures at { IfOk result (λ engine. engine.at ≡ 0) }
-        ensures stands { IfOk result (λ engine.
-            HasRun (arc_value engine.design.now) (arc_value engine.stimulus.now) engine.at engine.last) }
+        ensures stands { IfOk result (λ engine. HasRun (arc_value engine.lowered.now.design)
+            (arc_value engine.lowered.now.stimulus) engine.at engine.last) }
     {
-        let last = first_row(alloc, design)?;
+        let last = first_row(alloc, &lowered.design)?;
         Ok(WorkersEngine {
             rt,
-            design,
-            externs,
-            stimulus,
+            gate,
+            lowered,
             workers,
             last,
             at: 0,
@@ -76,33 +71,16 @@ impl<'r, R> WorkersEngine<'r, R> {
     }
 }
 
-impl<'r, R: Threads + Wait + Sync> Engine for WorkersEngine<'r, R> {
-    ghost use Rattle.std.specs.Thread.{IsSync};
-
-    ghost rows_to = { λ e n. run_of (arc_value e.design.now) (inputs_of (arc_value e.stimulus.now)) n };
+impl<'r, R: Threads + Wait + Sync> Engine for WorkersEngine<'r, R, &'r (dyn Gate + Sync)> {
+    ghost rows_to = { λ e n. run_of (arc_value e.lowered.now.design) (inputs_of (arc_value e.lowered.now.stimulus)) n };
 
     ghost at = { λ e. e.at };
 
-    ghost stands = { λ e. IsSync R.row × HasRun (arc_value e.design.now) (arc_value e.stimulus.now) e.at e.last };
+    ghost stands = { λ e. IsSync R.row
+        × HasRun (arc_value e.lowered.now.design) (arc_value e.lowered.now.stimulus) e.at e.last };
 
-    fn batch(
-        &mut self,
-        alloc: Global,
-        gate: &(dyn Gate + Sync),
-        to: u32,
-    ) -> Result<Rows, NoMemory> {
-        let mut rows = made_by_workers(
-            self.rt,
-            alloc,
-            self.design,
-            self.externs,
-            self.stimulus,
-            &self.last.regs,
-            self.at,
-            to,
-            self.workers,
-            gate,
-        )?;
+    fn batch(&mut self, alloc: Global, to: u32) -> Result<Rows, NoMemory> {
+        let mut rows = self.made_by_workers(alloc, to)?;
         let first = mem::replace(&mut self.last, no_row(alloc));
         let last = go_on(alloc, &mut rows, first)?;
         self.last = last;
@@ -113,47 +91,43 @@ impl<'r, R: Threads + Wait + Sync> Engine for WorkersEngine<'r, R> {
     fn count(
         &mut self,
         alloc: Global,
-        gate: &(dyn Gate + Sync),
-        from: u32,
-        to: u32,
+        ends: Ends,
         shape: &Shape,
         teller: &mut Teller,
     ) -> Result<(), NoMemory> {
-        let rows = self.batch(alloc, gate, to)?;
-        let _text = teller.take(alloc, shape, &rows, from)?;
+        let rows = self.batch(alloc, ends.to)?;
+        let _text = teller.take(alloc, shape, &rows, ends.from)?;
         Ok(())
     }
 }
 
-// The rows from one cycle to another, made by workers: these registers, and the rows of the cycles after it.
-fn made_by_workers<R: Threads + Wait + Sync>(
-    rt: &R,
-    alloc: Global,
-    design: &Arc<Design>,
-    externs: &Arc<Externs>,
-    stimulus: &Arc<Stimulus>,
-    regs: &Regs,
-    from: u32,
-    to: u32,
-    workers: u32,
-    gate: &(dyn Gate + Sync),
-) -> Result<Rows, NoMemory>
-    requires externs { kept (arc_value externs.now) ≡ externs_of (arc_value design.now) }
-    requires stimulus { StimulusFits (arc_value design.now) (arc_value stimulus.now) }
-    requires registers { HaveWidths (register_widths (arc_value design.now)) regs.now }
-    requires order { from ≤ to }
-    requires few { to ≤ 16777216 }
-    requires some { 1 ≤ workers }
-    requires most { workers ≤ 64 }
-    ensures run { IfOk result (λ rows.
-        rows ≡ run (system_of (arc_value design.now)) (inputs_of (arc_value stimulus.now)) regs.now from to) }
-    ensures fit { IfOk result (λ rows. RowsFit (arc_value design.now) rows) }
-{
-    let design = Arc::try_clone(design)?;
-    let externs = Arc::try_clone(externs)?;
-    let stimulus = Arc::try_clone(stimulus)?;
-    let first = Regs::from_slice(alloc, regs.as_slice())?;
-    run_batch::<LockBoard, R>(
-        rt, alloc, design, externs, stimulus, first, from, to, workers, gate,
-    )
+impl<'r, R: Threads + Wait + Sync> WorkersEngine<'r, R, &'r (dyn Gate + Sync)> {
+    // The rows from the cycle up to which it has run to another, made by workers: the registers that the first one left,
+    // and the rows of the cycles after it.
+    fn made_by_workers(&self, alloc: Global, to: u32) -> Result<Rows, NoMemory>
+        requires shared { IsSync R.row }
+        requires registers { HaveWidths (register_widths (arc_value self.now.lowered.now.design)) self.now.last.regs }
+        requires order { self.now.at ≤ to }
+        requires few { to ≤ 16777216 }
+        ensures run { IfOk result (λ rows. rows ≡ run (system_of (arc_value self.now.lowered.now.design))
+            (inputs_of (arc_value self.now.lowered.now.stimulus)) self.now.last.regs self.now.at to) }
+        ensures fit { IfOk result (λ rows. RowsFit (arc_value self.now.lowered.now.design) rows) }
+    {
+        let design = Arc::try_clone(&self.lowered.design)?;
+        let externs = Arc::try_clone(&self.lowered.externs)?;
+        let stimulus = Arc::try_clone(&self.lowered.stimulus)?;
+        let first = Regs::from_slice(alloc, self.last.regs.as_slice())?;
+        run_batch::<LockBoard, R>(
+            self.rt,
+            alloc,
+            design,
+            externs,
+            stimulus,
+            first,
+            self.at,
+            to,
+            self.workers,
+            self.gate,
+        )
+    }
 }

@@ -24,12 +24,12 @@ stepped : (g : Over) (c : After-step-in-loop-last g) → c.step-in-loop-last.new
 stepped g c = c.step-in-loop-last.ensures ∙ ap (g.M.Machine.after_step c.loop-last.machine) c.in_ok-inputs.ensures.inputs
 
 -- and after all the steps so far
-made : (g : Over) (c : After-step-in-loop-last g) → c.step-in-loop-last.new.self ≡ after_steps g.M.Machine.after_step (inputs_of c.args.stimulus.now) (c.loop-last.last + 1 - c.args.from) c.args.from c.args.machine.now
-made g c = steps-turn g.M.Machine.after_step (inputs_of c.args.stimulus.now) c.args.from c.loop-last.last c.args.machine.now c.loop-last.machine c.step-in-loop-last.new.self (omega arith) c.loop-last.invariant.made (stepped g c)
+made : (g : Over) (c : After-step-in-loop-last g) → c.step-in-loop-last.new.self ≡ after_steps g.M.Machine.after_step (inputs_of c.args.stimulus.now) (c.loop-last.last + 1 - c.args.ends.from) c.args.ends.from c.args.machine.now
+made g c = steps-turn g.M.Machine.after_step (inputs_of c.args.stimulus.now) c.args.ends.from c.loop-last.last c.args.machine.now c.loop-last.machine c.step-in-loop-last.new.self (omega arith) c.loop-last.invariant.made (stepped g c)
 
 -- its row fits the shape
 fits : (g : Over) (c : After-step-in-loop-last g) → RowFits c.args.shape.now.registers c.args.shape.now.rules (g.M.Machine.row_at c.step-in-loop-last.new.self)
-fits g c = subst (λ m. RowFits c.args.shape.now.registers c.args.shape.now.rules (g.M.Machine.row_at m)) (sym (made g c)) (c.requires.fit (c.loop-last.last + 1 - c.args.from))
+fits g c = subst (λ m. RowFits c.args.shape.now.registers c.args.shape.now.rules (g.M.Machine.row_at m)) (sym (made g c)) (c.requires.fit (c.loop-last.last + 1 - c.args.ends.from))
 
 -- a step changes no count of flags
 same-count : (g : Over) (c : After-step-in-loop-last g) → g.M.Machine.flag_count c.step-in-loop-last.new.self ≡ g.M.Machine.flag_count c.loop-last.machine
@@ -55,7 +55,7 @@ loop-last-preserved g c =
     let last = c.loop-last.last in
     let inputs = inputs_of c.args.stimulus.now in
     let at = (goal.at.loop-last-preserved g c).After-step-in-loop-last in
-    let rows = rows_after g.M.Machine.after_step g.M.Machine.row_at inputs (last - c.args.from) c.args.from c.args.machine.now in
+    let rows = rows_after g.M.Machine.after_step g.M.Machine.row_at inputs (last - c.args.ends.from) c.args.ends.from c.args.machine.now in
     let put = with_items_is c.loop-last.fired c.put_flags.new.room (omega (arith, c.put_flags.auto.room, c.deref_mut.ensures.len, c.loop-last.fired.ok.0)) in
     let flags = c.deref.ensures.value ∙ put ∙ c.put_flags.ensures in
     record {
@@ -63,7 +63,7 @@ loop-last-preserved g c =
       room = ap length put ∙ c.put_flags.auto.room ∙ ap length c.deref_mut.ensures.value ∙ c.loop-last.invariant.room ∙ sym (same-count g at);
       made = made g at;
       counted =
-          c.count.ensures ∙ ap₂ counted c.loop-last.invariant.counted flags ∙ sym (counted-more c.args.teller.now rows (g.M.Machine.row_at c.step-in-loop-last.new.self))
-          ∙ ap (counted_all c.args.teller.now) (sym (rows-turn g.M.Machine.after_step inputs g.M.Machine.row_at c.args.from last c.args.machine.now c.step-in-loop-last.new.self (omega arith) (made g at)));
+          c.count.ensures ∙ ap₂ counted {y = counted_all c.args.teller.now rows} c.loop-last.invariant.counted flags ∙ sym (counted-more c.args.teller.now rows (g.M.Machine.row_at c.step-in-loop-last.new.self))
+          ∙ ap (counted_all c.args.teller.now) (sym (rows-turn g.M.Machine.after_step inputs g.M.Machine.row_at c.args.ends.from last c.args.machine.now c.step-in-loop-last.new.self (omega arith) (made g at)));
       goes_on = subst (λ (t : Teller). GoesOnFrom t c.args.shape.now (last + 1)) (sym c.count.ensures) (goes-on-next c.loop-last.teller c.args.shape.now last _ c.loop-last.invariant.goes_on);
     }

@@ -9,7 +9,7 @@ abbrev pub invariant-loop-last : goal.invariant-loop-last
 invariant-loop-last g l = record {
   widths : g.M.Machine.input_widths l.machine ≡ g.M.Machine.input_widths l.fn.machine;
   room : length l.fired.items ≡ g.M.Machine.flag_count l.machine;
-  made : l.machine ≡ after_steps g.M.Machine.after_step (inputs_of l.stimulus) (l.last - l.from) l.from l.fn.machine;
-  counted : l.teller ≡ counted_all l.fn.teller (rows_after g.M.Machine.after_step g.M.Machine.row_at (inputs_of l.stimulus) (l.last - l.from) l.from l.fn.machine);
+  made : l.machine ≡ after_steps g.M.Machine.after_step (inputs_of l.stimulus) (l.last - l.fn.ends.from) l.fn.ends.from l.fn.machine;
+  counted : l.teller ≡ counted_all l.fn.teller (rows_after g.M.Machine.after_step g.M.Machine.row_at (inputs_of l.stimulus) (l.last - l.fn.ends.from) l.fn.ends.from l.fn.machine);
   goes_on : GoesOnFrom l.teller l.shape l.last;
 }

@@ -12,4 +12,4 @@ returns-in_err-count-clause-told g c =
 
 pub returns-clause-told : goal.returns-clause-told
 returns-clause-told g c =
-    told-as _ _ _ _ (sym (no-part (shown_by c.args.teller.now) c.args.shape.now _ c.args.from (sym c.writes_rows.ensures ∙ c.if-writes_rows.false))) (told-empty _ _ _)
+    told-as _ _ _ _ (sym (no-part (shown_by c.args.teller.now) c.args.shape.now _ c.args.ends.from (sym c.writes_rows.ensures ∙ c.if-writes_rows.false))) (told-empty _ _ _)

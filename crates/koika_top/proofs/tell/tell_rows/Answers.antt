@@ -12,10 +12,10 @@ batch-requires-clause-order g c = omega (arith, c.requires.at, c.requires.order)
 pub take-requires-clause-some : goal.take-requires-clause-some
 take-requires-clause-some g c =
     let rows = g.E.Engine.rows_to c.args.engine.now in
-    batch-some rows c.requires.run c.args.from c.args.to c.requires.order _ (batch-is rows _ c.args.from c.args.to _ c.requires.at c.in_ok-rows.ensures.rows)
+    batch-some rows c.requires.run c.args.ends.from c.args.ends.to c.requires.order _ (batch-is rows _ c.args.ends.from c.args.ends.to _ c.requires.at c.in_ok-rows.ensures.rows)
 
 pub take-requires-clause-fit : goal.take-requires-clause-fit
-take-requires-clause-fit g c = batch-fits c.args.shape.now _ _ _ (c.requires.fit c.args.to) c.in_ok-rows.ensures.rows
+take-requires-clause-fit g c = batch-fits c.args.shape.now _ _ _ (c.requires.fit c.args.ends.to) c.in_ok-rows.ensures.rows
 
 pub returns-in_err-rows-clause-told : goal.returns-in_err-rows-clause-told
 returns-in_err-rows-clause-told g c =
@@ -40,12 +40,12 @@ pub returns-clause-rows : goal.returns-clause-rows
 returns-clause-rows g c =
     let shape = c.args.shape.now in
     let rows = g.E.Engine.rows_to c.args.engine.now in
-    let is = batch-is rows _ c.args.from c.args.to _ c.requires.at c.in_ok-rows.ensures.rows in
+    let is = batch-is rows _ c.args.ends.from c.args.ends.to _ c.requires.at c.in_ok-rows.ensures.rows in
     on-ok-any c.write_text.result _ (λ marks. subst (TakesRows shape marks _ _) is (c.in_ok-text.ensures.rows marks))
 
 pub returns-clause-told : goal.returns-clause-told
 returns-clause-told g c =
     let rows = g.E.Engine.rows_to c.args.engine.now in
     told-as _ _ _ _
-    (c.as_slice.ensures ∙ c.in_ok-text.ensures.text ∙ ap (λ batch. part_of_batch (shown_by c.args.teller.now) c.args.shape.now batch c.args.from) (batch-is rows _ c.args.from c.args.to _ c.requires.at c.in_ok-rows.ensures.rows))
+    (c.as_slice.ensures ∙ c.in_ok-text.ensures.text ∙ ap (λ batch. part_of_batch (shown_by c.args.teller.now) c.args.shape.now batch c.args.ends.from) (batch-is rows _ c.args.ends.from c.args.ends.to _ c.requires.at c.in_ok-rows.ensures.rows))
     c.write_text.ensures

@@ -17,7 +17,7 @@ begin-requires-clause-stimulus g c =
 pub write_by-requires-clause-run : goal.write_by-requires-clause-run
 write_by-requires-clause-run g c n =
     let it = c.args.self.now.lowered in
-    (λ i. run_of (arc_value (c.in_ok-engine.ensures.design i)) (inputs_of (arc_value (c.in_ok-engine.ensures.stimulus i))) n)
+    (λ i. run_of (arc_value (c.in_ok-engine.ensures.lowered i).design) (inputs_of (arc_value (c.in_ok-engine.ensures.lowered i).stimulus)) n)
     ∙ same-rows it.checked (arc_value it.design) it.lowered (subst IsValid c.deref-design.ensures c.recall.ensures) (arc_value it.stimulus) it.stimulus_fits (subst AlwaysFits c.deref-stimulus.ensures c.recall-2.ensures) n
 
 pub returns-in_err-engine : goal.returns-in_err-engine

@@ -7,4 +7,4 @@ pub returns-clause-whole : goal.returns-clause-whole
 returns-clause-whole g c =
     let made = c.run_journal.ensures in
     whole_of c.run_journal.result (λ (x : Journaled). x.entries) c.args.self.now.workers _ _
-    (λ i. board_of (c.in_ok-design.ensures i) (c.in_ok-stimulus.ensures i) c.args.regs c.args.from c.args.to) made.legal made.closes made.by made.in_run
+    (λ i. board_of (c.in_ok-design.ensures i) (c.in_ok-stimulus.ensures i) c.args.regs c.args.ends.from c.args.ends.to) made.legal made.closes made.by made.in_run

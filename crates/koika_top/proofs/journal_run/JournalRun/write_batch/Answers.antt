@@ -15,7 +15,7 @@ use Rattle.koika_top.proofs.journal_run.JournalRun.write_batch.Goals as goal
 pub last_regs-requires : goal.last_regs-requires
 last_regs-requires g c =
     let run = c.args.self.now in
-    some-row (system_of (arc_value run.lowered.design)) (inputs_of (arc_value run.lowered.stimulus)) c.args.regs c.args.from c.args.to _ c.in_ok-made.ensures.run
+    some-row (system_of (arc_value run.lowered.design)) (inputs_of (arc_value run.lowered.stimulus)) c.args.regs c.args.ends.from c.args.ends.to _ c.in_ok-made.ensures.run
 
 pub returns-in_err-made-clause-batch : goal.returns-in_err-made-clause-batch
 returns-in_err-made-clause-batch g c =
@@ -39,10 +39,10 @@ returns-in_err-write_text-clause-batch g c =
     let stimulus = arc_value run.lowered.stimulus in
     let fits = c.fits.ensures in
     let made = c.in_ok-made in
-    let begins : IsOpening (board_of design stimulus c.args.regs c.args.from c.args.to) = record { design = fits.design; stimulus = fits.stimulus; always = fits.always; registers = c.requires.registers; order = omega (arith, c.requires.order) } in
+    let begins : IsOpening (board_of design stimulus c.args.regs c.args.ends.from c.args.ends.to) = record { design = fits.design; stimulus = fits.stimulus; always = fits.always; registers = c.requires.registers; order = omega (arith, c.requires.order) } in
     let p = err_from_is_err_and c.from_residual-in_err-write_text.result c.from_residual-in_err-write_text.ensures.1 in
     rw (p.1, p.2)
-    (wrote_front design stimulus run.workers c.args.regs c.args.from c.args.to begins made.made.entries made.ensures.whole made.made.rows made.ensures.run c.batch_of-batch.result _ _ _ c.batch_of-batch.ensures
+    (wrote_front design stimulus run.workers c.args.regs c.args.ends.from c.args.ends.to begins made.made.entries made.ensures.whole made.made.rows made.ensures.run c.batch_of-batch.result _ _ _ c.batch_of-batch.ensures
     (c.as_slice.ensures ∙ c.in_ok-text.ensures ∙ ap (λ (d : Parts). text_of d (lines_of_batch c.batch_of-batch.result)) c.deref.ensures) c.in_err-write_text.ensures)
 
 pub returns-clause-batch : goal.returns-clause-batch
@@ -52,8 +52,8 @@ returns-clause-batch g c =
     let stimulus = arc_value run.lowered.stimulus in
     let fits = c.fits.ensures in
     let made = c.in_ok-made in
-    let begins : IsOpening (board_of design stimulus c.args.regs c.args.from c.args.to) = record { design = fits.design; stimulus = fits.stimulus; always = fits.always; registers = c.requires.registers; order = omega (arith, c.requires.order) } in
-    wrote design stimulus run.workers c.args.regs c.args.from c.args.to begins made.made.entries made.ensures.whole made.made.rows made.ensures.run c.batch_of-batch.result c.in_ok-left.left _ _ _ c.batch_of-batch.ensures c.in_ok-left.ensures
+    let begins : IsOpening (board_of design stimulus c.args.regs c.args.ends.from c.args.ends.to) = record { design = fits.design; stimulus = fits.stimulus; always = fits.always; registers = c.requires.registers; order = omega (arith, c.requires.order) } in
+    wrote design stimulus run.workers c.args.regs c.args.ends.from c.args.ends.to begins made.made.entries made.ensures.whole made.made.rows made.ensures.run c.batch_of-batch.result c.in_ok-left.left _ _ _ c.batch_of-batch.ensures c.in_ok-left.ensures
     (c.as_slice.ensures ∙ c.in_ok-text.ensures ∙ ap (λ (d : Parts). text_of d (lines_of_batch c.batch_of-batch.result)) c.deref.ensures) c.in_ok-write_text.ensures
 
 pub returns-clause-widths : goal.returns-clause-widths
@@ -63,5 +63,5 @@ returns-clause-widths g c =
     let stimulus = arc_value run.lowered.stimulus in
     let fits = c.fits.ensures in
     let made = c.in_ok-made in
-    let begins : IsOpening (board_of design stimulus c.args.regs c.args.from c.args.to) = record { design = fits.design; stimulus = fits.stimulus; always = fits.always; registers = c.requires.registers; order = omega (arith, c.requires.order) } in
-    left_wide design stimulus run.workers c.args.regs c.args.from c.args.to begins made.made.entries made.ensures.whole made.made.rows made.ensures.run c.in_ok-left.left c.in_ok-left.ensures
+    let begins : IsOpening (board_of design stimulus c.args.regs c.args.ends.from c.args.ends.to) = record { design = fits.design; stimulus = fits.stimulus; always = fits.always; registers = c.requires.registers; order = omega (arith, c.requires.order) } in
+    left_wide design stimulus run.workers c.args.regs c.args.ends.from c.args.ends.to begins made.made.entries made.ensures.whole made.made.rows made.ensures.run c.in_ok-left.left c.in_ok-left.ensures
