@@ -1,5 +1,5 @@
 -- A net that is laid out to run on words of the machine, a step for each node. A node of up to 64 bits has its value's number
--- as its word, and the values of wider nodes are kept apart. This serves private functions alone.
+-- as its word, and the values of wider nodes are kept apart. States are kept likewise.
 use Rattle.std.specs.Prelude.{◌≡◌, ◌⊎◌, ℕ, ◌+◌, ◌-◌, ◌<◌, ◌≤◌, List, [], ◌∷◌, if◌then◌else◌, length, nat_le, Some, slice_get, slice_index_or}
 use Rattle.kw_bits.specs.BitVector.{BitVector}
 use Rattle.net_graph.specs.Nets.{IsNet, width_at, widths_of}
@@ -106,7 +106,7 @@ kept_from [] words wides place = []
 kept_from (width ∷ widths) words wides place =
     kept_value width (word_at words place) (value_at wides place) ∷ kept_from widths words wides (place + 1)
 
--- values of these widths are kept: a word for each, and a place in a list, which is no longer, for each wide one
+-- values of these widths are kept: a word for each, and in a list of at most as many a place for each wide one
 pub record AreKept (widths words : List ℕ) (wides : List BitVector) : Type 0 where
   pub fit : AreBits (kept_from widths words wides 0) widths
   pub each : length words ≡ length widths

@@ -43,6 +43,7 @@ impl<'c> Sim<'c> {
     {
         let word_sim = WordSim::begin(alloc, circuit)?;
         let mut states = word_sim.regs(alloc)?;
+        // (writes what is there, and says that the states have their widths)
         word_sim.put_states(&mut states);
         let outputs = zero_outputs(alloc, &circuit.net, circuit.outputs.as_slice())?;
         Ok(Sim {

@@ -17,6 +17,13 @@ use crate::words::{
 use kw_bits::Bits;
 use net_graph::{Net, NetId, NetOp, value_of};
 
+// The inputs of a step, and the states that it begins with.
+#[derive(Clone, Copy)]
+struct Sources<'s> {
+    inputs: &'s [Bits],
+    states: &'s StateWords,
+}
+
 /// Runs a net that is laid out: makes the words of its nodes, and the values of wide ones, in order, each once.
 pub(crate) fn run_steps(
     net: &Net,
@@ -33,10 +40,11 @@ pub(crate) fn run_steps(
     ensures words { length words.new ≡ length words.old }
     ensures wides { length wides.new ≡ length wides.old }
 {
+    let sources = Sources { inputs, states };
     for (id, step) in steps.iter().enumerate() {
-        match word_of(net, id, step, inputs, states, words, wides) {
+        match word_of(net, id, step, sources, words, wides) {
             Some(word) => words[id] = word,
-            None => make_other(net, id, step, inputs, states, words, wides),
+            None => make_other(net, id, step, sources, words, wides),
         }
     }
 }
@@ -47,8 +55,7 @@ fn word_of(
     net: &Net,
     id: usize,
     step: &Step,
-    inputs: &[Bits],
-    states: &StateWords,
+    sources: Sources,
     words: &[u64],
     wides: &[Bits],
 ) -> Option<u64>
@@ -56,15 +63,15 @@ fn word_of(
     requires node { id < length net.now }
     requires makes { Makes net.now id step.now }
     requires words { length words.now ≡ length net.now }
-    requires feeds { Feeds (record { inputs = inputs.now; states = states.now }) net.now }
-    requires keeps { Keeps net.now words.now wides.now (values_of (record { inputs = inputs.now; states = states.now }) net.now) id }
-    ensures word { IfSome result (λ word. IsNarrow net.now id × (word ≡ (node_value (record { inputs = inputs.now; states = states.now }) net.now id).number)) }
+    requires feeds { Feeds (record { inputs = sources.inputs.now; states = sources.states.now }) net.now }
+    requires keeps { Keeps net.now words.now wides.now (values_of (record { inputs = sources.inputs.now; states = sources.states.now }) net.now) id }
+    ensures word { IfSome result (λ word. IsNarrow net.now id × (word ≡ (node_value (record { inputs = sources.entry.inputs.now; states = sources.entry.states.now }) net.now id).number)) }
     ensures none { IfNone result (MakesNoWord step.now) }
 {
     match *step {
         Step::Constant(word) => Some(word),
-        Step::TakeInput(number) => Some(inputs[number as usize].number() as u64),
-        Step::TakeState(number) => Some(states.word(number as usize)),
+        Step::TakeInput(number) => Some(sources.inputs[number as usize].number() as u64),
+        Step::TakeState(number) => Some(sources.states.word(number as usize)),
         Step::Copy(a) => Some(at(words, a)),
         Step::Invert(a, mask) => Some(not(at(words, a), mask)),
         Step::Both(a, b) => Some(and(at(words, a), at(words, b))),
@@ -102,8 +109,7 @@ fn make_other(
     net: &Net,
     id: usize,
     step: &Step,
-    inputs: &[Bits],
-    states: &StateWords,
+    sources: Sources,
     words: &mut [u64],
     wides: &mut [Bits],
 )
@@ -111,13 +117,13 @@ fn make_other(
     requires node { id < length net.now }
     requires makes { Makes net.now id step.now }
     requires room { HasRoom net.now words.old wides.old }
-    requires feeds { Feeds (record { inputs = inputs.now; states = states.now }) net.now }
-    requires keeps { Keeps net.now words.old wides.old (values_of (record { inputs = inputs.now; states = states.now }) net.now) id }
-    ensures keeps { Keeps net.now words.new wides.new (values_of (record { inputs = inputs.now; states = states.now }) net.now) (id + 1) }
+    requires feeds { Feeds (record { inputs = sources.inputs.now; states = sources.states.now }) net.now }
+    requires keeps { Keeps net.now words.old wides.old (values_of (record { inputs = sources.inputs.now; states = sources.states.now }) net.now) id }
+    ensures keeps { Keeps net.now words.new wides.new (values_of (record { inputs = sources.entry.inputs.now; states = sources.entry.states.now }) net.now) (id + 1) }
     ensures words { length words.new ≡ length words.old }
     ensures wides { length wides.new ≡ length wides.old }
 {
-    let value = value_by_step(net, id, step, inputs, states, words, wides);
+    let value = value_by_step(net, id, step, sources, words, wides);
     if net.width(id as NetId) <= 64 {
         words[id] = value.number() as u64;
     } else {
@@ -131,8 +137,7 @@ fn value_by_step(
     net: &Net,
     id: usize,
     step: &Step,
-    inputs: &[Bits],
-    states: &StateWords,
+    sources: Sources,
     words: &[u64],
     wides: &[Bits],
 ) -> Bits
@@ -140,52 +145,47 @@ fn value_by_step(
     requires node { id < length net.now }
     requires makes { Makes net.now id step.now }
     requires room { HasRoom net.now words.now wides.now }
-    requires feeds { Feeds (record { inputs = inputs.now; states = states.now }) net.now }
-    requires keeps { Keeps net.now words.now wides.now (values_of (record { inputs = inputs.now; states = states.now }) net.now) id }
-    ensures { result ≡ node_value (record { inputs = inputs.now; states = states.now }) net.now id }
+    requires feeds { Feeds (record { inputs = sources.inputs.now; states = sources.states.now }) net.now }
+    requires keeps { Keeps net.now words.now wides.now (values_of (record { inputs = sources.inputs.now; states = sources.states.now }) net.now) id }
+    ensures { result ≡ node_value (record { inputs = sources.entry.inputs.now; states = sources.entry.states.now }) net.now id }
 {
     match *step {
-        Step::Wide(operator, a, b) => { value_of(&NetOp::Two(operator, a, b), inputs, &[], wides) }
-        _ => value_by_operator(net, id, inputs, states, words, wides),
+        Step::Wide(operator, a, b) => {
+            value_of(&NetOp::Two(operator, a, b), sources.inputs, &[], wides)
+        }
+        _ => value_by_operator(net, id, sources, words, wides),
     }
 }
 
 // The value of a node by its operator.
-fn value_by_operator(
-    net: &Net,
-    id: usize,
-    inputs: &[Bits],
-    states: &StateWords,
-    words: &[u64],
-    wides: &[Bits],
-) -> Bits
+fn value_by_operator(net: &Net, id: usize, sources: Sources, words: &[u64], wides: &[Bits]) -> Bits
     requires node { id < length net.now }
     requires room { HasRoom net.now words.now wides.now }
-    requires feeds { Feeds (record { inputs = inputs.now; states = states.now }) net.now }
-    requires keeps { Keeps net.now words.now wides.now (values_of (record { inputs = inputs.now; states = states.now }) net.now) id }
-    ensures { result ≡ node_value (record { inputs = inputs.now; states = states.now }) net.now id }
+    requires feeds { Feeds (record { inputs = sources.inputs.now; states = sources.states.now }) net.now }
+    requires keeps { Keeps net.now words.now wides.now (values_of (record { inputs = sources.inputs.now; states = sources.states.now }) net.now) id }
+    ensures { result ≡ node_value (record { inputs = sources.entry.inputs.now; states = sources.entry.states.now }) net.now id }
 {
     let op = net.ops()[id];
     match op {
         NetOp::Const(value) => value,
-        NetOp::Input(number, _) => inputs[number as usize],
-        NetOp::State(number, _) => states.value(number as usize),
+        NetOp::Input(number, _) => sources.inputs[number as usize],
+        NetOp::State(number, _) => sources.states.value(number as usize),
         NetOp::One(operator, a) => {
             let operands = [node(net, a, words, wides)];
-            value_of(&NetOp::One(operator, 0), inputs, &[], &operands)
+            value_of(&NetOp::One(operator, 0), sources.inputs, &[], &operands)
         }
         NetOp::Two(operator, a, b) => {
             let operands = [node(net, a, words, wides), node(net, b, words, wides)];
-            value_of(&NetOp::Two(operator, 0, 1), inputs, &[], &operands)
+            value_of(&NetOp::Two(operator, 0, 1), sources.inputs, &[], &operands)
         }
         NetOp::Slice(a, upper, lower) => node(net, a, words, wides).slice(upper, lower),
         NetOp::Uext(a, added) => {
             let operands = [node(net, a, words, wides)];
-            value_of(&NetOp::Uext(0, added), inputs, &[], &operands)
+            value_of(&NetOp::Uext(0, added), sources.inputs, &[], &operands)
         }
         NetOp::Sext(a, added) => {
             let operands = [node(net, a, words, wides)];
-            value_of(&NetOp::Sext(0, added), inputs, &[], &operands)
+            value_of(&NetOp::Sext(0, added), sources.inputs, &[], &operands)
         }
         NetOp::Ite(condition, a, b) => {
             if at(words, condition) == 1 {

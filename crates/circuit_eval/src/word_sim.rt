@@ -19,8 +19,8 @@ use one_rule::{Inputs, Regs};
 use std::alloc::{AllocError, Global};
 use std::marker::Model;
 
-/// A circuit that runs step by step, seen by contracts as its states now and its outputs in the last step. It makes bit
-/// vectors of them only when they are asked for.
+/// A circuit that runs step by step, seen by contracts as its states now and its outputs in the last step. Where no state
+/// has more than 64 bits, it makes bit vectors of them only when they are asked for.
 #[derive(Drop)]
 pub struct WordSim<'c> {
     circuit: &'c Circuit,
@@ -183,11 +183,11 @@ fn zeros(alloc: Global, net: &Net) -> Result<Vec<Bits>, NoMemory>
 fn regs_of(alloc: Global, states: &StateWords) -> Result<Regs, NoMemory>
     ensures { IfOk result (λ regs. regs ≡ states.now) }
 {
-    let mut regs = Regs::new(alloc);
+    let mut regs = Vec::with_capacity(alloc, states.len())?;
     for state in 0..states.len() {
-        regs.push(states.value(state))?;
+        regs.push_reserved(states.value(state));
     }
-    Ok(regs)
+    Ok(Regs::from_vec(regs))
 }
 
 fn put_values(states: &StateWords, room: &mut Regs)

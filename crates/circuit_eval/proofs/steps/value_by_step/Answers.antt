@@ -8,9 +8,9 @@ use Rattle.circuit_eval.proofs.steps.value_by_step.Goals as goal
 pub value_of-requires-clause-stands : goal.value_of-requires-clause-stands
 value_of-requires-clause-stands c =
     let m = subst (λ (step : Step). Makes c.args.net.now c.args.id step) c.in-Wide.is c.requires.makes in
-    (wide_operands (record { inputs = c.args.inputs.now; states = c.args.states.now }) c.args.net.now c.args.words.now c.args.wides.now c.args.id c.in-Wide.a c.in-Wide.b c.in-Wide.operator c.requires.net c.requires.room c.requires.keeps m.0 m.1 m.2).0
+    (wide_operands (record { inputs = c.args.sources.inputs.now; states = c.args.sources.states.now }) c.args.net.now c.args.words.now c.args.wides.now c.args.id c.in-Wide.a c.in-Wide.b c.in-Wide.operator c.requires.net c.requires.room c.requires.keeps m.0 m.1 m.2).0
 
 pub returns-in-Wide : goal.returns-in-Wide
 returns-in-Wide c =
     let m = subst (λ (step : Step). Makes c.args.net.now c.args.id step) c.in-Wide.is c.requires.makes in
-    c.value_of.ensures ∙ (wide_operands (record { inputs = c.args.inputs.now; states = c.args.states.now }) c.args.net.now c.args.words.now c.args.wides.now c.args.id c.in-Wide.a c.in-Wide.b c.in-Wide.operator c.requires.net c.requires.room c.requires.keeps m.0 m.1 m.2).1
+    c.value_of.ensures ∙ (wide_operands (record { inputs = c.args.sources.inputs.now; states = c.args.sources.states.now }) c.args.net.now c.args.words.now c.args.wides.now c.args.id c.in-Wide.a c.in-Wide.b c.in-Wide.operator c.requires.net c.requires.room c.requires.keeps m.0 m.1 m.2).1
