@@ -66,7 +66,12 @@ pub fn run_rule(
         → IsRun (register_widths design.now) run (port_run_if (environment design.now inputs.now) events regs.now (slice_get design.now.rules rule))) }
 {
     let log = Box::new(alloc, Log::new(alloc, design)?)?;
-    let run = run_logged(design, externs, rule, inputs, regs, sched, log)?;
+    let env = Environment {
+        design,
+        externs,
+        inputs,
+    };
+    let run = run_logged(&env, rule, regs, sched, log)?;
     Ok(match run.end {
         RuleEnd::Fired => RuleRun::Fired(Box::into_inner(run.log)),
         RuleEnd::Aborted => RuleRun::Aborted,
@@ -77,33 +82,27 @@ pub fn run_rule(
 /// The same, with a log of no access that the rule's reads and writes are noted in. Nothing here takes memory:
 /// `NoMemory` is only passed on, as ports in general may answer it.
 pub fn run_logged(
-    design: &Design,
-    externs: &Externs,
+    env: &Environment<Externs>,
     rule: u32,
-    inputs: &Inputs,
     regs: &Regs,
     sched: &Log,
     log: Box<Log>,
 ) -> Result<LoggedRun, NoMemory>
-    requires externs { kept externs.now ≡ externs_of design.now }
-    requires rule { rule < length design.now.rules }
-    requires inputs { HaveWidths (input_widths design.now) inputs.now }
-    requires registers { HaveWidths (register_widths design.now) regs.now }
-    requires sched { (events : List Event) × StandsFor (register_widths design.now) sched.now events }
-    requires log { StandsFor (register_widths design.now) log.value [] }
-    ensures run { IfOk result (λ run. (events : List Event) → StandsFor (register_widths design.now) sched.now events
-        → IsLoggedRun (register_widths design.now) run (port_run_if (environment design.now inputs.now) events regs.now (slice_get design.now.rules rule))) }
-    ensures follows { IfOk result (λ run. (events : List Event) → StandsFor (register_widths design.now) sched.now events
-        → WritesFollow events (port_run_if (environment design.now inputs.now) events regs.now (slice_get design.now.rules rule)).events) }
+    requires externs { kept env.now.externs.now ≡ externs_of env.now.design.now }
+    requires rule { rule < length env.now.design.now.rules }
+    requires inputs { HaveWidths (input_widths env.now.design.now) env.now.inputs.now }
+    requires registers { HaveWidths (register_widths env.now.design.now) regs.now }
+    requires sched { (events : List Event) × StandsFor (register_widths env.now.design.now) sched.now events }
+    requires log { StandsFor (register_widths env.now.design.now) log.value [] }
+    ensures run { IfOk result (λ run. (events : List Event) → StandsFor (register_widths env.now.design.now) sched.now events
+        → IsLoggedRun (register_widths env.now.design.now) run (port_run_if (environment env.now.design.now env.now.inputs.now) events regs.now (slice_get env.now.design.now.rules rule))) }
+    ensures follows { IfOk result (λ run. (events : List Event) → StandsFor (register_widths env.now.design.now) sched.now events
+        → WritesFollow events (port_run_if (environment env.now.design.now env.now.inputs.now) events regs.now (slice_get env.now.design.now.rules rule)).events) }
 {
-    let env = Environment {
-        design,
-        externs,
-        inputs,
-    };
+    let design = env.design;
     let mut ports = RulePorts { regs, sched, log };
     let body = &design.rules.get(rule as usize).body;
-    let value = evaluate(&env, &mut ports, body, &Scope::empty());
+    let value = evaluate(env, &mut ports, body, &Scope::empty());
     let end = end_of(value)?;
     Ok(LoggedRun {
         end,
