@@ -30,12 +30,12 @@ shape_of design = record { inputs = map of_input design.inputs; registers = map 
 abbrev pub widths_of : List NameWidth → List ℕ
 widths_of named = map (λ (one : NameWidth). one.width) named
 
--- one value of its width for each register, and a flag for each rule; no text shows further flags
+-- one value of its width for each register, and at least one flag for each rule; reports and summaries show the first ones alone
 pub record RowFits (registers : List NameWidth) (rules : List (List ℕ)) (row : Row) : Type 0 where
   pub values : HaveWidths (widths_of registers) row.regs
   pub flags : length rules ≤ length row.fired
 
--- rows that texts of a system of this shape can show
+-- rows that reports and summaries of a system of this shape can show
 abbrev pub RowsFit : Shape → List Row → Type 0
 RowsFit shape rows = AllByRecursion (RowFits shape.registers shape.rules) rows
 

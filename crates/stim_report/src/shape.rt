@@ -28,6 +28,7 @@ pub struct Shape {
 /// The shape of a design.
 pub fn shape_of(alloc: Global, design: &Design) -> Result<Shape, NoMemory>
     ensures shape { IfOk result (λ shape. shape ≡ shapes.shape_of design.now) }
+    ensures matches { IfOk result (λ shape. (run : List Row) → rows.RowsFit design.now run → shapes.RowsMatch shape run) }
     ensures fits { IfOk result (λ shape. (run : List Row) → rows.RowsFit design.now run → shapes.RowsFit shape run) }
 {
     let inputs = try_map(alloc, design.inputs.as_slice(), |decl| {
