@@ -37,6 +37,15 @@ pub fn to_lines(alloc: Global, circuit: &Circuit) -> Result<Lines, NoMemory>
     wires_lines(alloc, &circuit.net, states, inputs, outputs)
 }
 
+// The ids that the wires of a circuit have on a page.
+#[derive(Drop)]
+struct Ids {
+    states: Vec<u64>,
+    inputs: Vec<u64>,
+    // As far as the nodes are there.
+    nodes: Vec<u64>,
+}
+
 // The lines of a circuit's parts.
 #[tactic(auto, unfolding(crate::specs::Pages::lines_of))]
 fn wires_lines(
@@ -50,11 +59,14 @@ fn wires_lines(
     ensures few { IfOk result (λ lines. length lines < 2 ^ 64) }
 {
     let mut page = Page::new(alloc)?;
-    let state_ids = add_states(alloc, &mut page, states)?;
-    let input_ids = add_inputs(alloc, &mut page, inputs)?;
-    let nodes = add_nodes(alloc, &mut page, net, &input_ids, &state_ids)?;
-    add_nexts(alloc, &mut page, states, &state_ids, &nodes)?;
-    add_outputs(alloc, &mut page, outputs, &nodes)?;
+    let mut ids = Ids {
+        states: add_states(alloc, &mut page, states)?,
+        inputs: add_inputs(alloc, &mut page, inputs)?,
+        nodes: Vec::new(alloc),
+    };
+    add_nodes(alloc, &mut page, net, &mut ids)?;
+    add_nexts(alloc, &mut page, states, &ids)?;
+    add_outputs(alloc, &mut page, outputs, &ids.nodes)?;
     Ok(page.into_lines())
 }
 
@@ -94,23 +106,18 @@ fn add_inputs(alloc: Global, page: &mut Page, wires: &[InputWire]) -> Result<Vec
     Ok(ids)
 }
 
-// Adds a line for each node that is a constant or an operator, and gives the ids of all nodes.
-fn add_nodes(
-    alloc: Global,
-    page: &mut Page,
-    net: &Net,
-    inputs: &[u64],
-    states: &[u64],
-) -> Result<Vec<u64>, NoMemory>
-    ensures { IfOk result (λ ids. record { page = page_of page.new; ids = ids.items } ≡ pages.with_nodes inputs.now states.now (widths_of net.now) (record { page = page_of page.old; ids = [] }) net.now) }
+// Adds a line for each node that is a constant or an operator, and the ids of all nodes.
+fn add_nodes(alloc: Global, page: &mut Page, net: &Net, ids: &mut Ids) -> Result<(), NoMemory>
+    requires { ids.old.nodes.items ≡ [] }
+    ensures nodes { OnOk result (record { page = page_of page.new; ids = ids.new.nodes.items } ≡ pages.with_nodes ids.old.inputs.items ids.old.states.items (widths_of net.now) (record { page = page_of page.old; ids = [] }) net.now) }
+    ensures states { ids.new.states ≡ ids.old.states }
 {
-    let mut ids = Vec::new(alloc);
     for (node, op) in net.ops().iter().enumerate() {
         let width = net.width(node as NetId);
-        let id = add_node(alloc, page, width, op, inputs, states, &ids)?;
-        ids.push(id)?;
+        let id = add_node(alloc, page, width, op, ids)?;
+        ids.nodes.push(id)?;
     }
-    Ok(ids)
+    Ok(())
 }
 
 // The id of a node after nodes of these ids. A constant or an operator is a line, which is added.
@@ -119,55 +126,50 @@ fn add_node(
     page: &mut Page,
     width: u32,
     op: &NetOp,
-    inputs: &[u64],
-    states: &[u64],
-    ids: &[u64],
+    ids: &Ids,
 ) -> Result<u64, NoMemory>
-    ensures { IfOk result (λ id. record { page = page_of page.new; ids = ids.now ++ id ∷ [] } ≡ pages.with_node inputs.now states.now (record { page = page_of page.old; ids = ids.now }) width op.now) }
+    ensures { IfOk result (λ id. record { page = page_of page.new; ids = ids.now.nodes.items ++ id ∷ [] } ≡ pages.with_node ids.now.inputs.items ids.now.states.items (record { page = page_of page.old; ids = ids.now.nodes.items }) width op.now) }
 {
+    let nodes = ids.nodes.as_slice();
     match *op {
         NetOp::Const(value) => page.add_constant(alloc, value),
-        NetOp::Input(number, _) => Ok(id_in(inputs, u64::from(number))),
-        NetOp::State(number, _) => Ok(id_in(states, u64::from(number))),
+        NetOp::Input(number, _) => Ok(id_in(&ids.inputs, u64::from(number))),
+        NetOp::State(number, _) => Ok(id_in(&ids.states, u64::from(number))),
         NetOp::One(operator, a) => {
             let keyword = keyword_of_one(operator);
-            page.add(alloc, width, keyword, &[id_in(ids, a)], &[], None)
+            page.add(alloc, width, keyword, &[id_in(nodes, a)], &[], None)
         }
         NetOp::Two(operator, a, b) => {
             let keyword = keyword_of_two(operator);
-            let operands = [id_in(ids, a), id_in(ids, b)];
+            let operands = [id_in(nodes, a), id_in(nodes, b)];
             page.add(alloc, width, keyword, &operands, &[], None)
         }
         NetOp::Slice(a, upper, lower) => {
-            let operand = [id_in(ids, a)];
+            let operand = [id_in(nodes, a)];
             let bounds = [upper, lower];
             page.add(alloc, width, Keyword::Slice, &operand, &bounds, None)
         }
         NetOp::Uext(a, added) => {
-            let operand = [id_in(ids, a)];
+            let operand = [id_in(nodes, a)];
             page.add(alloc, width, Keyword::Uext, &operand, &[added], None)
         }
         NetOp::Sext(a, added) => {
-            let operand = [id_in(ids, a)];
+            let operand = [id_in(nodes, a)];
             page.add(alloc, width, Keyword::Sext, &operand, &[added], None)
         }
         NetOp::Ite(condition, a, b) => {
-            let operands = [id_in(ids, condition), id_in(ids, a), id_in(ids, b)];
+            let operands = [id_in(nodes, condition), id_in(nodes, a), id_in(nodes, b)];
             page.add(alloc, width, Keyword::Ite, &operands, &[], None)
         }
     }
 }
 
 // Adds a `next` for each state.
-fn add_nexts(
-    alloc: Global,
-    page: &mut Page,
-    wires: &[StateWire],
-    states: &[u64],
-    nodes: &[u64],
-) -> Result<(), NoMemory>
-    ensures { OnOk result (page_of page.new ≡ pages.with_nexts nodes.now states.now (page_of page.old) 0 wires.now) }
+fn add_nexts(alloc: Global, page: &mut Page, wires: &[StateWire], ids: &Ids) -> Result<(), NoMemory>
+    ensures { OnOk result (page_of page.new ≡ pages.with_nexts ids.now.nodes.items ids.now.states.items (page_of page.old) 0 wires.now) }
 {
+    let states = ids.states.as_slice();
+    let nodes = ids.nodes.as_slice();
     for (number, wire) in wires.iter().enumerate() {
         let set = [id_in(states, number as u64), id_in(nodes, wire.next)];
         page.add(alloc, wire.width, Keyword::Next, &set, &[], None)?;

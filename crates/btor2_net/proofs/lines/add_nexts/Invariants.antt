@@ -4,4 +4,4 @@ use Rattle.btor2_net.specs.Pages.{with_nexts}
 use Rattle.btor2_net.proofs.lines.add_nexts.Given as goal
 
 abbrev pub invariant-loop-number : goal.invariant-loop-number
-invariant-loop-number l = with_nexts l.nodes l.states (page_of l.page) l.number (drop l.number l.wires) ≡ with_nexts l.nodes l.states (page_of l.initial.page) 0 l.wires
+invariant-loop-number l = with_nexts l.ids.nodes.items l.ids.states.items (page_of l.page) l.number (drop l.number l.wires) ≡ with_nexts l.ids.nodes.items l.ids.states.items (page_of l.initial.page) 0 l.wires
