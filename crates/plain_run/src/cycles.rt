@@ -10,7 +10,7 @@ ghost use Rattle.plain_run.specs.inner.Walking.{AreEmpty};
 
 use crate::walk::{Walking, walk};
 use kw_bits::NoMemory;
-use one_rule::{Externs, Inputs, Regs, Row, opening};
+use one_rule::{Environment, Externs, Inputs, Regs, Row, opening};
 use rule_log::Log;
 use std::alloc::Global;
 use typed_core::Design;
@@ -87,7 +87,12 @@ pub(crate) fn next_row(
         fired,
         at: design.root(),
     };
-    let rule = walk(design, externs, inputs, regs, &mut walking, logs.rule)?;
+    let env = Environment {
+        design,
+        externs,
+        inputs,
+    };
+    let rule = walk(&env, regs, &mut walking, logs.rule)?;
     let Walking {
         mut sched,
         fired,

@@ -17,9 +17,9 @@ ghost use Rattle.plain_run.specs.inner.Walking.{IsAt, IsEmpty, Stands, begin};
 
 use action_interp::{LoggedRun, RuleEnd, run_logged};
 use kw_bits::NoMemory;
-use one_rule::{Externs, FiredSet, Inputs, Regs};
+use one_rule::{Environment, Externs, FiredSet, Regs};
 use rule_log::Log;
-use typed_core::{Design, Next, Node};
+use typed_core::{Next, Node};
 
 // A place in a cycle's walk: the log of the rules that fired so far, these rules, and where the walk goes on.
 #[derive(Debug, Drop)]
@@ -31,53 +31,50 @@ pub(crate) struct Walking {
 
 // Walks from the root to the end of a cycle that begins on these registers. The log of no access is handed back.
 pub(crate) fn walk(
-    design: &Design,
-    externs: &Externs,
-    inputs: &Inputs,
+    env: &Environment<Externs>,
     regs: &Regs,
     walking: &mut Walking,
     log: Box<Log>,
 ) -> Result<Box<Log>, NoMemory>
-    requires externs { kept externs.now ≡ externs_of design.now }
-    requires inputs { HaveWidths (input_widths design.now) inputs.now }
-    requires registers { HaveWidths (register_widths design.now) regs.now }
-    requires begin { Stands design.now walking.old begin }
-    requires root { walking.old.at ≡ root design.now.nodes }
-    requires log { IsEmpty design.now log.value }
-    ensures walk { IfOk result (λ _. Stands design.now walking.new (port_walk design.now inputs.now regs.now)) }
-    ensures log { IfOk result (λ log. IsEmpty design.now log.value) }
+    requires externs { kept env.now.externs.now ≡ externs_of env.now.design.now }
+    requires inputs { HaveWidths (input_widths env.now.design.now) env.now.inputs.now }
+    requires registers { HaveWidths (register_widths env.now.design.now) regs.now }
+    requires begin { Stands env.now.design.now walking.old begin }
+    requires root { walking.old.at ≡ root env.now.design.now.nodes }
+    requires log { IsEmpty env.now.design.now log.value }
+    ensures walk { IfOk result (λ _. Stands env.now.design.now walking.new (port_walk env.now.design.now env.now.inputs.now regs.now)) }
+    ensures log { IfOk result (λ log. IsEmpty env.now.design.now log.value) }
 {
+    let design = env.design;
     let nodes = design.nodes.as_slice();
     let mut log = log;
     for (number, node) in nodes.iter().enumerate() {
-        log = pass(design, externs, inputs, regs, number, node, walking, log)?;
+        log = pass(env, regs, number, node, walking, log)?;
     }
     Ok(log)
 }
 
 // Visits the node of this number if the walk is at it.
 fn pass(
-    design: &Design,
-    externs: &Externs,
-    inputs: &Inputs,
+    env: &Environment<Externs>,
     regs: &Regs,
     number: usize,
     node: &Node,
     walking: &mut Walking,
     log: Box<Log>,
 ) -> Result<Box<Log>, NoMemory>
-    requires externs { kept externs.now ≡ externs_of design.now }
-    requires inputs { HaveWidths (input_widths design.now) inputs.now }
-    requires registers { HaveWidths (register_widths design.now) regs.now }
-    requires rule { node.now.rule < length design.now.rules }
-    requires stands { (state : PortState) × Stands design.now walking.old state }
-    requires log { IsEmpty design.now log.value }
-    ensures pass { IfOk result (λ _. (state : PortState) → Stands design.now walking.old state
-        → IsAt design.now walking.new (pass (port_fire design.now inputs.now regs.now) number node.now (record { state = state; at = walking.old.at }))) }
-    ensures log { IfOk result (λ log. IsEmpty design.now log.value) }
+    requires externs { kept env.now.externs.now ≡ externs_of env.now.design.now }
+    requires inputs { HaveWidths (input_widths env.now.design.now) env.now.inputs.now }
+    requires registers { HaveWidths (register_widths env.now.design.now) regs.now }
+    requires rule { node.now.rule < length env.now.design.now.rules }
+    requires stands { (state : PortState) × Stands env.now.design.now walking.old state }
+    requires log { IsEmpty env.now.design.now log.value }
+    ensures pass { IfOk result (λ _. (state : PortState) → Stands env.now.design.now walking.old state
+        → IsAt env.now.design.now walking.new (pass (port_fire env.now.design.now env.now.inputs.now regs.now) number node.now (record { state = state; at = walking.old.at }))) }
+    ensures log { IfOk result (λ log. IsEmpty env.now.design.now log.value) }
 {
     if walking.at.is_at(number) {
-        visit(design, externs, inputs, regs, node, walking, log)
+        visit(env, regs, node, walking, log)
     } else {
         Ok(log)
     }
@@ -85,33 +82,23 @@ fn pass(
 
 // Tries the rule of a node. Where it fires, its log joins that of the rules before it.
 fn visit(
-    design: &Design,
-    externs: &Externs,
-    inputs: &Inputs,
+    env: &Environment<Externs>,
     regs: &Regs,
     node: &Node,
     walking: &mut Walking,
     log: Box<Log>,
 ) -> Result<Box<Log>, NoMemory>
-    requires externs { kept externs.now ≡ externs_of design.now }
-    requires inputs { HaveWidths (input_widths design.now) inputs.now }
-    requires registers { HaveWidths (register_widths design.now) regs.now }
-    requires rule { node.now.rule < length design.now.rules }
-    requires stands { (state : PortState) × Stands design.now walking.old state }
-    requires log { IsEmpty design.now log.value }
-    ensures visit { IfOk result (λ _. (state : PortState) → Stands design.now walking.old state
-        → IsAt design.now walking.new (goes_on node.now state (port_fire design.now inputs.now regs.now node.now.rule state))) }
-    ensures log { IfOk result (λ log. IsEmpty design.now log.value) }
+    requires externs { kept env.now.externs.now ≡ externs_of env.now.design.now }
+    requires inputs { HaveWidths (input_widths env.now.design.now) env.now.inputs.now }
+    requires registers { HaveWidths (register_widths env.now.design.now) regs.now }
+    requires rule { node.now.rule < length env.now.design.now.rules }
+    requires stands { (state : PortState) × Stands env.now.design.now walking.old state }
+    requires log { IsEmpty env.now.design.now log.value }
+    ensures visit { IfOk result (λ _. (state : PortState) → Stands env.now.design.now walking.old state
+        → IsAt env.now.design.now walking.new (goes_on node.now state (port_fire env.now.design.now env.now.inputs.now regs.now node.now.rule state))) }
+    ensures log { IfOk result (λ log. IsEmpty env.now.design.now log.value) }
 {
-    let LoggedRun { end, mut log } = run_logged(
-        design,
-        externs,
-        node.rule,
-        inputs,
-        regs,
-        &walking.sched,
-        log,
-    )?;
+    let LoggedRun { end, mut log } = run_logged(env, node.rule, regs, &walking.sched, log)?;
     settle(node, end, &log, walking);
     log.clear();
     Ok(log)

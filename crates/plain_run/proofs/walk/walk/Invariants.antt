@@ -8,7 +8,7 @@ use Rattle.plain_run.proofs.walk.walk.Given as goal
 abbrev pub invariant-loop-number : goal.invariant-loop-number
 invariant-loop-number l =
     record {
-      stands : (state : PortState) × Stands l.design l.walking state
-          × (walk_past (port_fire l.design l.inputs l.regs) l.number (drop l.number l.nodes) (record { state = state; at = l.walking.at }) ≡ walk_from (port_fire l.design l.inputs l.regs) l.nodes begin);
-      log : IsEmpty l.design l.log.value;
+      stands : (state : PortState) × Stands l.env.design.now l.walking state
+          × (walk_past (port_fire l.env.design.now l.env.inputs.now l.regs) l.number (drop l.number l.nodes) (record { state = state; at = l.walking.at }) ≡ walk_from (port_fire l.env.design.now l.env.inputs.now l.regs) l.nodes begin);
+      log : IsEmpty l.env.design.now l.log.value;
     }
