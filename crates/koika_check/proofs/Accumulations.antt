@@ -16,11 +16,6 @@ module _ {X Y : Type 0} (next : List Y → X → Y) where
   accumulated before [] = before
   accumulated before (x ∷ xs) = accumulated (before ++ next before x ∷ []) xs
 
-  pub accumulated-length : (before : List Y) (xs : List X) → length (accumulated before xs) ≡ length before + length xs
-  accumulated-length before [] = omega arith
-  accumulated-length before (x ∷ xs) =
-      accumulated-length (before ++ next before x ∷ []) xs ∙ omega (arith, length-append before (next before x ∷ []))
-
   kept : (before : List Y) (xs : List X) (k : ℕ) → k < length before → slice_get (accumulated before xs) k ≡ slice_get before k
   kept before [] k lt = refl
   kept before (x ∷ xs) k lt =

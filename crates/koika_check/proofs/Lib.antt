@@ -43,6 +43,7 @@ pub mod TypedTreeParts
 pub mod Turns
 pub mod TypeParts
 pub mod TypedAdditions
+pub mod TypedAmong
 pub mod TypedBlocks
 pub mod TypedComposites
 pub mod TypedConstants

@@ -1,7 +1,6 @@
 -- The squares of an expression, by those of its parts, and of the bodies of functions, by their numbers.
-use Rattle.std.proofs.Common.{◌≡◌, ℕ, suc, ◌+◌, ◌≤◌, List, [], ◌∷◌, ◌++◌, length, take, sum_by, Some, None, slice_get, refl, ap, ap₂, sym, ◌∙◌, arith}
+use Rattle.std.proofs.Common.{◌≡◌, ℕ, suc, ◌+◌, List, [], ◌∷◌, ◌++◌, length, take, sum_by, Some, slice_get, refl, ap, ap₂, sym, ◌∙◌, arith}
 use Rattle.std.proofs.lemmas.List.{take_all}
-use Rattle.std.proofs.lemmas.Option.{slice_get_past}
 use Rattle.koika_types.specs.declared.value.Value.{Value}
 use Rattle.koika_types.proofs.Sizes.{sum_by-map}
 use Rattle.koika_check.specs.BitWeights.{bodies_after, own_squares, squares, step_step, typed_step}
@@ -13,7 +12,7 @@ use Rattle.koika_check.specs.declared.typed.BlockStep.TheOpen as opened
 use Rattle.koika_check.specs.declared.typed.BlockStep.TheVariants as step
 use Rattle.koika_check.specs.declared.typed.Typed.{Typed, fold-roll-Typed}
 use Rattle.koika_check.specs.declared.typed.Typed.TheVariants as typed
-use Rattle.koika_check.proofs.Accumulations.{accumulated, accumulated-at, accumulated-length}
+use Rattle.koika_check.proofs.Accumulations.{accumulated, accumulated-at}
 
 -- ---- expressions
 
@@ -71,10 +70,6 @@ function_squares before f = squares before f.body
 pub bodies-are : (before : List ℕ) (fs : List CheckedFunction) → bodies_after before fs ≡ accumulated function_squares before fs
 bodies-are before [] = refl
 bodies-are before (f ∷ fs) = bodies-are (before ++ function_squares before f ∷ []) fs
-
-pub no-body : (fs : List CheckedFunction) (number : ℕ) → length fs ≤ number → slice_get (bodies_after [] fs) number ≡ None
-no-body fs number past =
-    slice_get_past (bodies_after [] fs) number (omega (arith, ap length (bodies-are [] fs), accumulated-length function_squares [] fs, past))
 
 pub body-at : (fs : List CheckedFunction) (number : ℕ) (f : CheckedFunction) → slice_get fs number ≡ Some f → slice_get (bodies_after [] fs) number ≡ Some (squares (bodies_after [] (take number fs)) f.body)
 body-at fs number f at =

@@ -1,9 +1,8 @@
 //! Checker: the bit weight of a design, which tells how many gates its circuit may have.
 
-ghost use Rattle.std.specs.Prelude.{◌≡◌, ◌+◌, ◌<◌, [], length, sum_by};
-ghost use Rattle.typed_core.specs.Valid.{AreNodes};
+ghost use Rattle.std.specs.Prelude.{◌≡◌, ◌+◌, ◌<◌, [], All, length, sum_by};
 ghost use Rattle.koika_check.specs.BitWeights as weights;
-ghost use Rattle.koika_check.specs.inner.BitWeights.{cap, step_squares};
+ghost use Rattle.koika_check.specs.inner.BitWeights.{AppliesAmong, IsStepAmong, IsTypedAmong, cap, step_squares};
 ghost use Rattle.koika_check.specs.Typing.{IsTypedDesign};
 
 use crate::checked::{Checked, CheckedFunction};
@@ -45,6 +44,7 @@ fn register_bits(design: &Checked) -> u64
 
 // The squares of all rules.
 fn squares_of_rules(design: &Checked) -> u64
+    requires { IsTypedDesign design.now }
     ensures { result ≡ cap (sum_by (weights.rule_squares design.now) design.now.rules) }
 {
     let mut all: u64 = 0;
@@ -56,7 +56,7 @@ fn squares_of_rules(design: &Checked) -> u64
 
 // For each node of the scheduler the squares of its rule.
 fn squares_of_nodes(design: &Checked) -> u64
-    requires { AreNodes (length design.now.rules) design.now.nodes }
+    requires { IsTypedDesign design.now }
     ensures { result ≡ cap (sum_by (weights.node_squares design.now) design.now.nodes) }
 {
     let mut squares: u64 = 0;
@@ -67,7 +67,8 @@ fn squares_of_nodes(design: &Checked) -> u64
 }
 
 fn node_squares(design: &Checked, node: &Node) -> u64
-    requires { node.now.rule < length design.now.rules }
+    requires design { IsTypedDesign design.now }
+    requires rule { node.now.rule < length design.now.rules }
     ensures { result ≡ cap (weights.node_squares design.now node.now) }
 {
     let rule = &design.rules[node.rule as usize];
@@ -77,6 +78,7 @@ fn node_squares(design: &Checked, node: &Node) -> u64
 // The squares of an expression, which may call these functions.
 #[cycle(squares)]
 fn squares(functions: &[CheckedFunction], of: &Typed) -> u64
+    requires { IsTypedAmong functions.now of.now }
     ensures { result ≡ cap (weights.squares (weights.bodies_after [] functions.now) of.now) }
 {
     match of {
@@ -100,16 +102,14 @@ fn squares(functions: &[CheckedFunction], of: &Typed) -> u64
 // What an operation adds to the squares of its operands.
 #[cycle(squares)]
 fn own_squares(functions: &[CheckedFunction], operation: &Operation) -> u64
+    requires { AppliesAmong functions.now operation.now }
     ensures { result ≡ cap (weights.own_squares (weights.bodies_after [] functions.now) operation.now) }
 {
     match operation {
         Operation::Chain { operators, width } => chain_squares(operators.as_slice(), *width),
         Operation::Call(number) => {
             let number = *number as usize;
-            match functions.get(number) {
-                Some(function) => squares(&functions[..number], &function.body),
-                None => 0,
-            }
+            squares(&functions[..number], &functions[number].body)
         }
         _ => 0,
     }
@@ -137,6 +137,7 @@ fn square(width: u32, operator: BinaryOperator) -> u64
 
 #[cycle(squares)]
 fn squares_in(functions: &[CheckedFunction], operands: &[Typed]) -> u64
+    requires { All (IsTypedAmong functions.now) operands.now }
     ensures { result ≡ cap (sum_by (weights.squares (weights.bodies_after [] functions.now)) operands.now) }
 {
     let mut all: u64 = 0;
@@ -148,6 +149,7 @@ fn squares_in(functions: &[CheckedFunction], operands: &[Typed]) -> u64
 
 #[cycle(squares)]
 fn squares_of_steps(functions: &[CheckedFunction], steps: &[BlockStep]) -> u64
+    requires { All (IsStepAmong functions.now) steps.now }
     ensures { result ≡ cap (sum_by (step_squares (weights.bodies_after [] functions.now)) steps.now) }
 {
     let mut all: u64 = 0;
@@ -159,6 +161,7 @@ fn squares_of_steps(functions: &[CheckedFunction], steps: &[BlockStep]) -> u64
 
 #[cycle(squares)]
 fn squares_of_step(functions: &[CheckedFunction], step: &BlockStep) -> u64
+    requires { IsStepAmong functions.now step.now }
     ensures { result ≡ cap (step_squares (weights.bodies_after [] functions.now) step.now) }
 {
     match step {
