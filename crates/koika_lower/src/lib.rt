@@ -1,7 +1,7 @@
 //! The lowering: the design of the core that a well typed design is lowered to, each rule of which does alone what it did.
 //! `koika_top` calls it for a run.
 //!
-//! `specs/Lowering.antt` says what the design is, `specs/Simulation.antt` what it is that an action stands for an expression.
+//! `specs/Lowering.antt` says what the design is, `specs/inner/Simulation.antt` what it is that an action stands for an expression.
 //! Operands keep their order, a function's body is lowered anew at each call, parts of values become slices, and a slice of all
 //! bits, an extension to the same width and a unit beside another action are left out, since engines interpret actions as given.
 //! Time and memory grow as the design's weight does.
