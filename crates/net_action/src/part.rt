@@ -14,38 +14,39 @@ use crate::gates::{both, both_not, choice, constant, either};
 use crate::lookup::Asked;
 use crate::operation::{Operation, apply};
 use crate::operators::{input_wire, two};
-use crate::ports::{read, write};
+use crate::ports::{RegisterPort, read, write};
 use crate::wires::{PortWires, RuleNet};
 use kw_bits::{Bits, NoMemory};
 use net_graph::{Net, NetId};
 use one_rule::Outside;
 use typed_core::{Action, Design, Scope, TwoOp};
 
-/// What a rule's body is made wires in.
+/// What an action is made wires in.
 #[derive(Drop)]
 pub(crate) struct Context<'a, E> {
     pub(crate) design: &'a Design,
     pub(crate) externs: &'a E,
     pub(crate) ports: &'a PortWires,
+    /// The wires of the names that are bound round it.
+    pub(crate) locals: &'a Scope<'a, NetId>,
 }
 
 /// A wire with what an action evaluates to, if it has a value, where the rule still runs and the names that are bound
-/// round it have the values of these wires.
+/// round it have the values of the context's wires.
 #[cycle(part)]
 pub(crate) fn part<E: Outside>(
     context: &Context<E>,
     net: &mut Net,
     run: &mut RuleNet,
     action: &Action,
-    locals: &Scope<NetId>,
 ) -> Result<Option<NetId>, NoMemory>
     requires valid { IsValid context.now.design.now }
     requires externs { E.kept context.now.externs.now ≡ externs_of context.now.design.now }
     requires ports { ArePortWires net.old (register_widths context.now.design.now) context.now.ports.now }
     requires run { IsRunning net.old (register_widths context.now.design.now) run.old }
-    requires ready { CanBe (ActionHasWidth (declarations context.now.design.now) action.now) net.old locals.now }
+    requires ready { CanBe (ActionHasWidth (declarations context.now.design.now) action.now) net.old context.now.locals.now }
     ensures grows { Grows (input_widths context.now.design.now) net.old net.new }
-    ensures part { IfOk result (λ wire. IsPart (declarations context.now.design.now) context.now.ports.now net.old run.old action.now locals.now net.new run.new wire) }
+    ensures part { IfOk result (λ wire. IsPart (declarations context.now.design.now) context.now.ports.now net.old run.old action.now context.now.locals.now net.new run.new wire) }
 {
     match action {
         Action::Unit => Ok(None),
@@ -53,45 +54,40 @@ pub(crate) fn part<E: Outside>(
             let known = constant(net, *value)?;
             Ok(Some(known))
         }
-        Action::Local(name) => Ok(locals.get(*name)),
+        Action::Local(name) => Ok(context.locals.get(*name)),
         Action::Input(input) => {
             let given = input_wire(net, context.design, *input)?;
             Ok(Some(given))
         }
-        Action::One(operator, a) => {
-            unary(context, net, run, Operation::One(*operator), a, locals)
-        }
-        Action::Two(operator, a, b) => binary(context, net, run, *operator, a, b, locals),
+        Action::One(operator, a) => { unary(context, net, run, Operation::One(*operator), a) }
+        Action::Two(operator, a, b) => binary(context, net, run, *operator, a, b),
         Action::Slice(a, upper, lower) => unary(
             context,
             net,
             run,
             Operation::Slice(*upper, *lower),
             a,
-            locals,
         ),
-        Action::Zext(a, width) => unary(context, net, run, Operation::Zext(*width), a, locals),
-        Action::Sext(a, width) => unary(context, net, run, Operation::Sext(*width), a, locals),
+        Action::Zext(a, width) => unary(context, net, run, Operation::Zext(*width), a),
+        Action::Sext(a, width) => unary(context, net, run, Operation::Sext(*width), a),
         Action::Table(table, a) => {
             let asked = Asked::Table(*table);
-            unary(context, net, run, Operation::Ask(asked), a, locals)
+            unary(context, net, run, Operation::Ask(asked), a)
         }
         Action::Host(host, a) => {
             let asked = Asked::Host(*host);
-            unary(context, net, run, Operation::Ask(asked), a, locals)
+            unary(context, net, run, Operation::Ask(asked), a)
         }
-        Action::Let(value, body) => bound(context, net, run, value, body, locals),
+        Action::Let(value, body) => bound(context, net, run, value, body),
         Action::If(condition, first, second) => {
-            conditional(context, net, run, condition, first, second, locals)
+            conditional(context, net, run, condition, first, second)
         }
-        Action::Seq(first, second) => sequence(context, net, run, first, second, locals),
+        Action::Seq(first, second) => sequence(context, net, run, first, second),
         Action::Read(port, register) => {
             let seen = read(context.design, context.ports, net, run, *port, *register)?;
             Ok(Some(seen))
         }
-        Action::Write(port, register, a) => {
-            written(context, net, run, *port, *register, a, locals)
-        }
+        Action::Write(port, register, a) => { written(context, net, run, *port, *register, a) }
         Action::Abort => {
             let never = constant(net, Bits::zero(1))?;
             run.fires = never;
@@ -107,17 +103,16 @@ fn operand<E: Outside>(
     net: &mut Net,
     run: &mut RuleNet,
     action: &Action,
-    locals: &Scope<NetId>,
 ) -> Result<NetId, NoMemory>
     requires valid { IsValid context.now.design.now }
     requires externs { E.kept context.now.externs.now ≡ externs_of context.now.design.now }
     requires ports { ArePortWires net.old (register_widths context.now.design.now) context.now.ports.now }
     requires run { IsRunning net.old (register_widths context.now.design.now) run.old }
-    requires ready { CanBeOperand (declarations context.now.design.now) net.old action.now locals.now }
+    requires ready { CanBeOperand (declarations context.now.design.now) net.old action.now context.now.locals.now }
     ensures grows { Grows (input_widths context.now.design.now) net.old net.new }
-    ensures part { IfOk result (λ wire. IsPart (declarations context.now.design.now) context.now.ports.now net.old run.old action.now locals.now net.new run.new (Some wire)) }
+    ensures part { IfOk result (λ wire. IsPart (declarations context.now.design.now) context.now.ports.now net.old run.old action.now context.now.locals.now net.new run.new (Some wire)) }
 {
-    let wire = part(context, net, run, action, locals)?;
+    let wire = part(context, net, run, action)?;
     match wire {
         Some(id) => Ok(id),
         None => unreachable!(),
@@ -132,17 +127,16 @@ fn unary<E: Outside>(
     run: &mut RuleNet,
     operation: Operation,
     a: &Action,
-    locals: &Scope<NetId>,
 ) -> Result<Option<NetId>, NoMemory>
     requires valid { IsValid context.now.design.now }
     requires externs { E.kept context.now.externs.now ≡ externs_of context.now.design.now }
     requires ports { ArePortWires net.old (register_widths context.now.design.now) context.now.ports.now }
     requires run { IsRunning net.old (register_widths context.now.design.now) run.old }
-    requires ready { CanBe (UnaryHasWidth (declarations context.now.design.now) operation a.now) net.old locals.now }
+    requires ready { CanBe (UnaryHasWidth (declarations context.now.design.now) operation a.now) net.old context.now.locals.now }
     ensures grows { Grows (input_widths context.now.design.now) net.old net.new }
-    ensures part { IfOk result (λ wire. IsMade (declarations context.now.design.now) context.now.ports.now net.old run.old (UnaryHasWidth (declarations context.now.design.now) operation a.now) (unary_of operation a.now) locals.now net.new run.new wire) }
+    ensures part { IfOk result (λ wire. IsMade (declarations context.now.design.now) context.now.ports.now net.old run.old (UnaryHasWidth (declarations context.now.design.now) operation a.now) (unary_of operation a.now) context.now.locals.now net.new run.new wire) }
 {
-    let x = operand(context, net, run, a, locals)?;
+    let x = operand(context, net, run, a)?;
     let wire = apply(context.design, context.externs, net, operation, x)?;
     Ok(Some(wire))
 }
@@ -156,18 +150,17 @@ fn binary<E: Outside>(
     operator: TwoOp,
     a: &Action,
     b: &Action,
-    locals: &Scope<NetId>,
 ) -> Result<Option<NetId>, NoMemory>
     requires valid { IsValid context.now.design.now }
     requires externs { E.kept context.now.externs.now ≡ externs_of context.now.design.now }
     requires ports { ArePortWires net.old (register_widths context.now.design.now) context.now.ports.now }
     requires run { IsRunning net.old (register_widths context.now.design.now) run.old }
-    requires ready { CanBe (BinaryHasWidth (declarations context.now.design.now) operator a.now b.now) net.old locals.now }
+    requires ready { CanBe (BinaryHasWidth (declarations context.now.design.now) operator a.now b.now) net.old context.now.locals.now }
     ensures grows { Grows (input_widths context.now.design.now) net.old net.new }
-    ensures part { IfOk result (λ wire. IsMade (declarations context.now.design.now) context.now.ports.now net.old run.old (BinaryHasWidth (declarations context.now.design.now) operator a.now b.now) (binary_of operator a.now b.now) locals.now net.new run.new wire) }
+    ensures part { IfOk result (λ wire. IsMade (declarations context.now.design.now) context.now.ports.now net.old run.old (BinaryHasWidth (declarations context.now.design.now) operator a.now b.now) (binary_of operator a.now b.now) context.now.locals.now net.new run.new wire) }
 {
-    let x = operand(context, net, run, a, locals)?;
-    let y = operand(context, net, run, b, locals)?;
+    let x = operand(context, net, run, a)?;
+    let y = operand(context, net, run, b)?;
     let wire = two(net, operator, x, y)?;
     Ok(Some(wire))
 }
@@ -180,19 +173,24 @@ fn bound<E: Outside>(
     run: &mut RuleNet,
     value: &Action,
     body: &Action,
-    locals: &Scope<NetId>,
 ) -> Result<Option<NetId>, NoMemory>
     requires valid { IsValid context.now.design.now }
     requires externs { E.kept context.now.externs.now ≡ externs_of context.now.design.now }
     requires ports { ArePortWires net.old (register_widths context.now.design.now) context.now.ports.now }
     requires run { IsRunning net.old (register_widths context.now.design.now) run.old }
-    requires ready { CanBe (LetHasWidth (declarations context.now.design.now) value.now body.now) net.old locals.now }
+    requires ready { CanBe (LetHasWidth (declarations context.now.design.now) value.now body.now) net.old context.now.locals.now }
     ensures grows { Grows (input_widths context.now.design.now) net.old net.new }
-    ensures part { IfOk result (λ wire. IsMade (declarations context.now.design.now) context.now.ports.now net.old run.old (LetHasWidth (declarations context.now.design.now) value.now body.now) (let_of value.now body.now) locals.now net.new run.new wire) }
+    ensures part { IfOk result (λ wire. IsMade (declarations context.now.design.now) context.now.ports.now net.old run.old (LetHasWidth (declarations context.now.design.now) value.now body.now) (let_of value.now body.now) context.now.locals.now net.new run.new wire) }
 {
-    let x = operand(context, net, run, value, locals)?;
-    let inner = Scope::bind(x, &*locals);
-    part(context, net, run, body, &inner)
+    let x = operand(context, net, run, value)?;
+    let locals = Scope::bind(x, context.locals);
+    let inner = Context {
+        design: context.design,
+        externs: context.externs,
+        ports: context.ports,
+        locals: &locals,
+    };
+    part(&inner, net, run, body)
 }
 
 // One action after another.
@@ -203,18 +201,17 @@ fn sequence<E: Outside>(
     run: &mut RuleNet,
     first: &Action,
     second: &Action,
-    locals: &Scope<NetId>,
 ) -> Result<Option<NetId>, NoMemory>
     requires valid { IsValid context.now.design.now }
     requires externs { E.kept context.now.externs.now ≡ externs_of context.now.design.now }
     requires ports { ArePortWires net.old (register_widths context.now.design.now) context.now.ports.now }
     requires run { IsRunning net.old (register_widths context.now.design.now) run.old }
-    requires ready { CanBe (SequenceHasWidth (declarations context.now.design.now) first.now second.now) net.old locals.now }
+    requires ready { CanBe (SequenceHasWidth (declarations context.now.design.now) first.now second.now) net.old context.now.locals.now }
     ensures grows { Grows (input_widths context.now.design.now) net.old net.new }
-    ensures part { IfOk result (λ wire. IsMade (declarations context.now.design.now) context.now.ports.now net.old run.old (SequenceHasWidth (declarations context.now.design.now) first.now second.now) (sequence_of first.now second.now) locals.now net.new run.new wire) }
+    ensures part { IfOk result (λ wire. IsMade (declarations context.now.design.now) context.now.ports.now net.old run.old (SequenceHasWidth (declarations context.now.design.now) first.now second.now) (sequence_of first.now second.now) context.now.locals.now net.new run.new wire) }
 {
-    let _dropped = part(context, net, run, first, locals)?;
-    part(context, net, run, second, locals)
+    let _dropped = part(context, net, run, first)?;
+    part(context, net, run, second)
 }
 
 // A write of a value.
@@ -226,26 +223,18 @@ fn written<E: Outside>(
     port: u32,
     register: u32,
     a: &Action,
-    locals: &Scope<NetId>,
 ) -> Result<Option<NetId>, NoMemory>
     requires valid { IsValid context.now.design.now }
     requires externs { E.kept context.now.externs.now ≡ externs_of context.now.design.now }
     requires ports { ArePortWires net.old (register_widths context.now.design.now) context.now.ports.now }
     requires run { IsRunning net.old (register_widths context.now.design.now) run.old }
-    requires ready { CanBe (WriteHasWidth (declarations context.now.design.now) port register a.now) net.old locals.now }
+    requires ready { CanBe (WriteHasWidth (declarations context.now.design.now) port register a.now) net.old context.now.locals.now }
     ensures grows { Grows (input_widths context.now.design.now) net.old net.new }
-    ensures part { IfOk result (λ wire. IsMade (declarations context.now.design.now) context.now.ports.now net.old run.old (WriteHasWidth (declarations context.now.design.now) port register a.now) (write_of port register a.now) locals.now net.new run.new wire) }
+    ensures part { IfOk result (λ wire. IsMade (declarations context.now.design.now) context.now.ports.now net.old run.old (WriteHasWidth (declarations context.now.design.now) port register a.now) (write_of port register a.now) context.now.locals.now net.new run.new wire) }
 {
-    let value = operand(context, net, run, a, locals)?;
-    write(
-        context.design,
-        context.ports,
-        net,
-        run,
-        port,
-        register,
-        value,
-    )?;
+    let value = operand(context, net, run, a)?;
+    let target = RegisterPort { port, register };
+    write(context.design, context.ports, net, run, target, value)?;
     Ok(None)
 }
 
@@ -258,25 +247,24 @@ fn conditional<E: Outside>(
     condition: &Action,
     first: &Action,
     second: &Action,
-    locals: &Scope<NetId>,
 ) -> Result<Option<NetId>, NoMemory>
     requires valid { IsValid context.now.design.now }
     requires externs { E.kept context.now.externs.now ≡ externs_of context.now.design.now }
     requires ports { ArePortWires net.old (register_widths context.now.design.now) context.now.ports.now }
     requires run { IsRunning net.old (register_widths context.now.design.now) run.old }
-    requires ready { CanBe (IfHasWidth (declarations context.now.design.now) condition.now first.now second.now) net.old locals.now }
+    requires ready { CanBe (IfHasWidth (declarations context.now.design.now) condition.now first.now second.now) net.old context.now.locals.now }
     ensures grows { Grows (input_widths context.now.design.now) net.old net.new }
-    ensures part { IfOk result (λ wire. IsMade (declarations context.now.design.now) context.now.ports.now net.old run.old (IfHasWidth (declarations context.now.design.now) condition.now first.now second.now) (if_of condition.now first.now second.now) locals.now net.new run.new wire) }
+    ensures part { IfOk result (λ wire. IsMade (declarations context.now.design.now) context.now.ports.now net.old run.old (IfHasWidth (declarations context.now.design.now) condition.now first.now second.now) (if_of condition.now first.now second.now) context.now.locals.now net.new run.new wire) }
 {
-    let x = operand(context, net, run, condition, locals)?;
+    let x = operand(context, net, run, condition)?;
     let before = run.fires;
     let taken = both(net, before, x)?;
     run.fires = taken;
-    let a = part(context, net, run, first, locals)?;
+    let a = part(context, net, run, first)?;
     let after_first = run.fires;
     let other = both_not(net, before, x)?;
     run.fires = other;
-    let b = part(context, net, run, second, locals)?;
+    let b = part(context, net, run, second)?;
     let after = either(net, after_first, run.fires)?;
     run.fires = after;
     let wire = chosen(net, x, a, b)?;

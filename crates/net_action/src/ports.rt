@@ -23,6 +23,13 @@ use net_graph::{Net, NetId};
 use typed_core::Design;
 use typed_core::limits::PORTS;
 
+/// A port of a register.
+#[derive(Clone, Copy)]
+pub(crate) struct RegisterPort {
+    pub(crate) port: u32,
+    pub(crate) register: u32,
+}
+
 /// A wire with what a read of a register at a port evaluates to. The rule runs on where it isn't refused.
 pub(crate) fn read(
     design: &Design,
@@ -56,19 +63,19 @@ pub(crate) fn write(
     ports: &PortWires,
     net: &mut Net,
     run: &mut RuleNet,
-    port: u32,
-    register: u32,
+    target: RegisterPort,
     value: NetId,
 ) -> Result<(), NoMemory>
-    requires port { IsPort port }
+    requires port { IsPort target.port }
     requires ports { ArePortWires net.old (register_widths design.now) ports.now }
     requires run { IsRunning net.old (register_widths design.now) run.old }
-    requires value { (width : ℕ) × (slice_get (register_widths design.now) register ≡ Some width) × HasWire net.old value width }
+    requires value { (width : ℕ) × (slice_get (register_widths design.now) target.register ≡ Some width) × HasWire net.old value width }
     ensures grows { (inputs : List ℕ) → Grows inputs net.old net.new }
     ensures running { IfOk result (λ done. IsRunning net.new (register_widths design.now) run.new) }
     ensures means { IfOk result (λ done. (s : Sources) (values : List BitVector) (events : List Event) (regs : List BitVector) → AreValues s net.new values → PortsStandFor (register_widths design.now) values ports.now events regs
-        → Means (register_widths design.now) values run.old run.new None (write_behind events port register (value_at values value))) }
+        → Means (register_widths design.now) values run.old run.new None (write_behind events target.port target.register (value_at values value))) }
 {
+    let RegisterPort { port, register } = target;
     let refused = refuses_write(design, net, ports, run, port, register)?;
     let fires = both_not(net, run.fires, refused)?;
     keep(net, &mut run.log.values, port, register, fires, value)?;

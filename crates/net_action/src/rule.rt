@@ -41,13 +41,15 @@ pub fn rule_net(
         → RuleStandsFor (register_widths design.now) values wires (port_run_if (environment design.now s.inputs) events regs (slice_get design.now.rules rule))) }
 {
     let mut run = beginning(alloc, net, design, ports)?;
+    let locals = Scope::empty();
     let context = Context {
         design,
         externs,
         ports,
+        locals: &locals,
     };
     let body = &design.rules.get(rule as usize).body;
-    let _unit = part(&context, net, &mut run, body, &Scope::empty())?;
+    let _unit = part(&context, net, &mut run, body)?;
     Ok(run)
 }
 

@@ -12,7 +12,7 @@ pub returns-then-level-eq0-clause-value : goal.returns-then-level-eq0-clause-val
 returns-then-level-eq0-clause-value g t c s values are h =
     let wide = (values_before s [] c.args.net.now c.leaf.new.net values (c.leaf.ensures.grows []) are).fit c.args.x c.args.width c.requires.wire in
     c.in_ok-wire.ensures.value s values are
-    ∙ ap (answer_to (g.E.Outside.kept c.args.externs.now) c.args.asked) (sym (number_is (value_at values c.args.x) c.args.level c.args.width c.args.high (omega (arith, c.if-level-eq0.true)) wide.1 h))
+    ∙ ap (answer_to (g.E.Outside.kept c.args.question.now.externs.now) c.args.question.now.asked) (sym (number_is (value_at values c.args.x) c.args.level c.args.width c.args.high (omega (arith, c.if-level-eq0.true)) wide.1 h))
 
 pub tree-requires : goal.tree-requires
 tree-requires g t c κs within =
@@ -61,5 +61,5 @@ returns-clause-value g t c s values are h =
     c.in_ok-wire-2.ensures.value s values are
     ∙ ap (λ (v : BitVector). if nat_eq v.number 1 then a1 else a0) (c.in_ok-bit.ensures.value s values are3)
     ∙ ap (λ (n : ℕ). if nat_eq n 1 then a1 else a0) (bit_of (value_at values c.args.x) below)
-    ∙ half_taken (value_at values c.args.x).number c.args.level c.args.high a1 a0 (answer_to (g.E.Outside.kept c.args.externs.now) c.args.asked (value_at values c.args.x)) (omega (arith, c.if-level-eq0.false)) h
+    ∙ half_taken (value_at values c.args.x).number c.args.level c.args.high a1 a0 (answer_to (g.E.Outside.kept c.args.question.now.externs.now) c.args.question.now.asked (value_at values c.args.x)) (omega (arith, c.if-level-eq0.false)) h
     (c.in_ok-where_1.ensures.value s values are2) (c.in_ok-where_0.ensures.value s values are1)

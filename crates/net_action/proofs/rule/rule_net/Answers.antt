@@ -31,7 +31,7 @@ part-requires-clause-ready c =
     let valid = subst IsValid c.design.view_is c.design.invariant in
     let at = subst (λ (d : Parts). slice_get d.rules c.args.rule ≡ Some c.get.result.now) c.design.view_is (found c.design.inside.rules c.args.rule c.get.result.now (subst (λ (d : Parts). c.args.rule < length d.rules) (sym c.design.view_is) c.requires.rule) c.get.ensures) in
     let typed = found_holds (λ (rule : Rule). ActionHasWidth (declarations c.args.design.now) rule.body [] 0) c.args.design.now.rules c.args.rule c.get.result.now valid.rules at in
-    subst (λ (names : List ℕ). CanBe (ActionHasWidth (declarations c.args.design.now) c.get.result.now.body) c.beginning.new.net names) (sym c.empty.ensures) ([], 0, tt, typed)
+    subst (λ (names : List ℕ). CanBe (ActionHasWidth (declarations c.args.design.now) c.get.result.now.body) c.beginning.new.net names) (sym c.empty-locals.ensures) ([], 0, tt, typed)
 
 pub returns-in_err-_unit-clause-grows : goal.returns-in_err-_unit-clause-grows
 returns-in_err-_unit-clause-grows c = grows_on (input_widths c.args.design.now) c.args.net.now c.beginning.new.net c.part.new.net (c.beginning.ensures.grows (input_widths c.args.design.now)) c.part.ensures.grows
@@ -49,7 +49,7 @@ pub returns-clause-run : goal.returns-clause-run
 returns-clause-run c s values events regs are st =
     let at = subst (λ (d : Parts). slice_get d.rules c.args.rule ≡ Some c.get.result.now) c.design.view_is (found c.design.inside.rules c.args.rule c.get.result.now (subst (λ (d : Parts). c.args.rule < length d.rules) (sym c.design.view_is) c.requires.rule) c.get.ensures) in
     let first = values_before s (input_widths c.args.design.now) c.beginning.new.net c.part.new.net values c.part.ensures.grows are in
-    let stands = rule_stands (declarations c.args.design.now) c.args.ports.now c.beginning.new.net c.part.new.net _ c.part.new.run c.get.result.now.body c.empty.result c.in_ok-_unit._unit s values events regs c.empty.ensures c.in_ok-_unit.ensures.part are st
+    let stands = rule_stands (declarations c.args.design.now) c.args.ports.now c.beginning.new.net c.part.new.net _ c.part.new.run c.get.result.now.body c.empty-locals.result c.in_ok-_unit._unit s values events regs c.empty-locals.ensures c.in_ok-_unit.ensures.part are st
     (c.in_ok-run.ensures.fires s values first) (c.in_ok-run.ensures.none s values first) in
     subst (λ (o : Option Rule). RuleStandsFor (register_widths c.args.design.now) values c.part.new.run (port_run_if (environment c.args.design.now s.inputs) events regs o)) (sym at) stands
 
