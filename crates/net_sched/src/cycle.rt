@@ -17,7 +17,7 @@ ghost use Rattle.net_action.specs.Wires.{AreValues, wire_at};
 ghost use Rattle.net_sched.specs.inner.Cycles.{AreCycleWires, AreStates, CycleStandsFor, nothing, nth};
 
 use crate::flags::{filled, lead, mark, nth};
-use crate::visit::visit;
+use crate::visit::{Context, visit};
 use kw_bits::{Bits, NoMemory, Sequence};
 use net_action::{LogWires, PortWires, constant};
 use net_graph::{Net, NetId};
@@ -52,8 +52,9 @@ pub(crate) fn cycle_wires(
         → CycleStandsFor (register_widths design.now) (length design.now.nodes) (length design.now.rules) values s.states cycle (length design.now.nodes) (walk_from (port_fire design.now s.inputs s.states) design.now.nodes nothing)) }
 {
     let mut cycle = beginning(alloc, net, design, start)?;
+    let context = Context { design, externs };
     for (number, node) in design.nodes.as_slice().iter().enumerate() {
-        pass(alloc, net, design, externs, &mut cycle, number, node)?;
+        pass(alloc, &context, net, &mut cycle, number, node)?;
     }
     Ok(cycle)
 }
@@ -141,33 +142,24 @@ fn of_each_port(alloc: Global, wires: &Sequence<NetId>) -> Result<Sequence<NetId
 // Passes a node: where the walk is there, its rule is tried.
 fn pass(
     alloc: Global,
+    context: &Context,
     net: &mut Net,
-    design: &Design,
-    externs: &Externs,
     cycle: &mut CycleWires,
     number: usize,
     node: &Node,
 ) -> Result<(), NoMemory>
-    requires externs { kept externs.now ≡ externs_of design.now }
-    requires number { number < length design.now.nodes }
-    requires node { IsNode (length design.now.rules) (length design.now.nodes) number node.now }
-    requires wires { AreCycleWires net.old (register_widths design.now) (length design.now.nodes) (length design.now.rules) cycle.old }
-    ensures grows { Grows (input_widths design.now) net.old net.new }
-    ensures wires { IfOk result (λ done. AreCycleWires net.new (register_widths design.now) (length design.now.nodes) (length design.now.rules) cycle.new) }
+    requires externs { kept context.now.externs.now ≡ externs_of context.now.design.now }
+    requires number { number < length context.now.design.now.nodes }
+    requires node { IsNode (length context.now.design.now.rules) (length context.now.design.now.nodes) number node.now }
+    requires wires { AreCycleWires net.old (register_widths context.now.design.now) (length context.now.design.now.nodes) (length context.now.design.now.rules) cycle.old }
+    ensures grows { Grows (input_widths context.now.design.now) net.old net.new }
+    ensures wires { IfOk result (λ done. AreCycleWires net.new (register_widths context.now.design.now) (length context.now.design.now.nodes) (length context.now.design.now.rules) cycle.new) }
     ensures walk { IfOk result (λ done. (s : Sources) (values regs : List BitVector) (now : Walk PortState) → AreValues s net.new values
-        → CycleStandsFor (register_widths design.now) (length design.now.nodes) (length design.now.rules) values regs cycle.old number now
-        → CycleStandsFor (register_widths design.now) (length design.now.nodes) (length design.now.rules) values regs cycle.new (number + 1) (walk.pass (port_fire design.now s.inputs regs) number node.now now)) }
+        → CycleStandsFor (register_widths context.now.design.now) (length context.now.design.now.nodes) (length context.now.design.now.rules) values regs cycle.old number now
+        → CycleStandsFor (register_widths context.now.design.now) (length context.now.design.now.nodes) (length context.now.design.now.rules) values regs cycle.new (number + 1) (walk.pass (port_fire context.now.design.now s.inputs regs) number node.now now)) }
 {
     let is_visited = nth(&cycle.visited, number);
-    let tried = visit(
-        alloc,
-        net,
-        design,
-        externs,
-        &cycle.ports,
-        node.rule,
-        is_visited,
-    )?;
+    let tried = visit(alloc, context, net, &cycle.ports, node.rule, is_visited)?;
     lead(net, &mut cycle.visited, node.yes, tried.fires)?;
     lead(net, &mut cycle.visited, node.no, tried.fails)?;
     mark(net, &mut cycle.fired, node.rule as usize, tried.fires)?;

@@ -20,6 +20,13 @@ use one_rule::Externs;
 use std::alloc::Global;
 use typed_core::Design;
 
+/// A design, with its tables and host functions.
+#[derive(Drop)]
+pub(crate) struct Context<'a> {
+    pub(crate) design: &'a Design,
+    pub(crate) externs: &'a Externs,
+}
+
 /// A node that is visited where a wire is 1.
 #[derive(Drop)]
 pub(crate) struct NodeWires {
@@ -34,27 +41,26 @@ pub(crate) struct NodeWires {
 /// Tries a rule after the scheduler log where the wire is 1.
 pub(crate) fn visit(
     alloc: Global,
+    context: &Context,
     net: &mut Net,
-    design: &Design,
-    externs: &Externs,
     ports: &PortWires,
     rule: u32,
     is_visited: NetId,
 ) -> Result<NodeWires, NoMemory>
-    requires externs { kept externs.now ≡ externs_of design.now }
-    requires rule { rule < length design.now.rules }
-    requires ports { ArePortWires net.old (register_widths design.now) ports.now }
+    requires externs { kept context.now.externs.now ≡ externs_of context.now.design.now }
+    requires rule { rule < length context.now.design.now.rules }
+    requires ports { ArePortWires net.old (register_widths context.now.design.now) ports.now }
     requires is_visited { HasWire net.old is_visited 1 }
-    ensures grows { Grows (input_widths design.now) net.old net.new }
+    ensures grows { Grows (input_widths context.now.design.now) net.old net.new }
     ensures fires { IfOk result (λ visit. HasWire net.new visit.fires 1) }
     ensures fails { IfOk result (λ visit. HasWire net.new visit.fails 1) }
-    ensures log { IfOk result (λ visit. AreLogWires net.new (register_widths design.now) visit.log) }
-    ensures visit { IfOk result (λ visit. (s : Sources) (values regs : List BitVector) (state : PortState) → AreValues s net.new values → PortsStandFor (register_widths design.now) values ports.now state.log regs
-        → IsVisit (register_widths design.now) values visit (is_up values is_visited) state (port_fire design.now s.inputs regs rule state)) }
+    ensures log { IfOk result (λ visit. AreLogWires net.new (register_widths context.now.design.now) visit.log) }
+    ensures visit { IfOk result (λ visit. (s : Sources) (values regs : List BitVector) (state : PortState) → AreValues s net.new values → PortsStandFor (register_widths context.now.design.now) values ports.now state.log regs
+        → IsVisit (register_widths context.now.design.now) values visit (is_up values is_visited) state (port_fire context.now.design.now s.inputs regs rule state)) }
 {
-    let tried = rule_net(alloc, net, design, externs, rule, ports)?;
+    let tried = rule_net(alloc, net, context.design, context.externs, rule, ports)?;
     let fires = both(net, is_visited, tried.fires)?;
     let fails = both_not(net, is_visited, tried.fires)?;
-    let log = joined_log(alloc, net, design, &ports.log, &tried.log, fires)?;
+    let log = joined_log(alloc, net, context.design, &ports.log, &tried.log, fires)?;
     Ok(NodeWires { fires, fails, log })
 }

@@ -21,27 +21,27 @@ visit-requires-clause-is_visited c = subst (λ (w : ℕ). HasWire c.args.net.now
 
 pub lead-requires-clause-next : goal.lead-requires-clause-next
 lead-requires-clause-next c =
-    subst (λ (n : ℕ). IsWithin n c.args.node.now.yes) (sym c.requires.wires.visited.count) (is_within (length c.args.design.now.nodes) c.args.number c.args.node.now.yes c.requires.node.yes)
+    subst (λ (n : ℕ). IsWithin n c.args.node.now.yes) (sym c.requires.wires.visited.count) (is_within (length c.args.context.now.design.now.nodes) c.args.number c.args.node.now.yes c.requires.node.yes)
 
 pub lead-requires-clause-visited : goal.lead-requires-clause-visited
 lead-requires-clause-visited c =
     let visited = c.args.cycle.now.visited in
     subst (λ (n : ℕ). AreFlags c.visit.new.net n visited) (sym c.requires.wires.visited.count)
-    (flags_kept (input_widths c.args.design.now) c.args.net.now c.visit.new.net visited (length c.args.design.now.nodes) c.visit.ensures.grows c.requires.wires.visited)
+    (flags_kept (input_widths c.args.context.now.design.now) c.args.net.now c.visit.new.net visited (length c.args.context.now.design.now.nodes) c.visit.ensures.grows c.requires.wires.visited)
 
 pub returns-in_err-lead-clause-grows : goal.returns-in_err-lead-clause-grows
-returns-in_err-lead-clause-grows c = grows_on (input_widths c.args.design.now) c.args.net.now c.visit.new.net c.lead.new.net c.visit.ensures.grows (c.lead.ensures.grows (input_widths c.args.design.now))
+returns-in_err-lead-clause-grows c = grows_on (input_widths c.args.context.now.design.now) c.args.net.now c.visit.new.net c.lead.new.net c.visit.ensures.grows (c.lead.ensures.grows (input_widths c.args.context.now.design.now))
 
 pub lead-requires-2-clause-next : goal.lead-requires-2-clause-next
 lead-requires-2-clause-next c =
-    subst (λ (n : ℕ). IsWithin n c.args.node.now.no) (sym (c.in_ok-lead.ensures.flags.count ∙ c.requires.wires.visited.count)) (is_within (length c.args.design.now.nodes) c.args.number c.args.node.now.no c.requires.node.no)
+    subst (λ (n : ℕ). IsWithin n c.args.node.now.no) (sym (c.in_ok-lead.ensures.flags.count ∙ c.requires.wires.visited.count)) (is_within (length c.args.context.now.design.now.nodes) c.args.number c.args.node.now.no c.requires.node.no)
 
 pub lead-requires-2-clause-goes : goal.lead-requires-2-clause-goes
 lead-requires-2-clause-goes c = wire_kept [] c.visit.new.net c.lead.new.net c.in_ok-tried.tried.fails 1 (c.lead.ensures.grows []) c.in_ok-tried.ensures.fails
 
 pub returns-in_err-lead-2-clause-grows : goal.returns-in_err-lead-2-clause-grows
 returns-in_err-lead-2-clause-grows c =
-    let widths = input_widths c.args.design.now in
+    let widths = input_widths c.args.context.now.design.now in
     grows_on widths c.args.net.now c.visit.new.net c.lead-2.new.net c.visit.ensures.grows (grows_on widths c.visit.new.net c.lead.new.net c.lead-2.new.net (c.lead.ensures.grows widths) (c.lead-2.ensures.grows widths))
 
 pub mark-requires-clause-place : goal.mark-requires-clause-place
@@ -49,10 +49,10 @@ mark-requires-clause-place c = omega (arith, c.requires.node.rule, c.requires.wi
 
 pub mark-requires-clause-flags : goal.mark-requires-clause-flags
 mark-requires-clause-flags c =
-    let widths = input_widths c.args.design.now in
+    let widths = input_widths c.args.context.now.design.now in
     let fired = c.args.cycle.now.fired in
     let grows = grows_on widths c.args.net.now c.visit.new.net c.lead-2.new.net c.visit.ensures.grows (grows_on widths c.visit.new.net c.lead.new.net c.lead-2.new.net (c.lead.ensures.grows widths) (c.lead-2.ensures.grows widths)) in
-    subst (λ (n : ℕ). AreFlags c.lead-2.new.net n fired) (sym c.requires.wires.fired.count) (flags_kept widths c.args.net.now c.lead-2.new.net fired (length c.args.design.now.rules) grows c.requires.wires.fired)
+    subst (λ (n : ℕ). AreFlags c.lead-2.new.net n fired) (sym c.requires.wires.fired.count) (flags_kept widths c.args.net.now c.lead-2.new.net fired (length c.args.context.now.design.now.rules) grows c.requires.wires.fired)
 
 pub mark-requires-clause-is_set : goal.mark-requires-clause-is_set
 mark-requires-clause-is_set c =
@@ -60,20 +60,20 @@ mark-requires-clause-is_set c =
 
 pub returns-in_err-mark-clause-grows : goal.returns-in_err-mark-clause-grows
 returns-in_err-mark-clause-grows c =
-    let widths = input_widths c.args.design.now in
+    let widths = input_widths c.args.context.now.design.now in
     grows_on widths c.args.net.now c.visit.new.net c.mark.new.net c.visit.ensures.grows
     (grows_on widths c.visit.new.net c.lead-2.new.net c.mark.new.net (grows_on widths c.visit.new.net c.lead.new.net c.lead-2.new.net (c.lead.ensures.grows widths) (c.lead-2.ensures.grows widths)) (c.mark.ensures.grows widths))
 
 pub returns-clause-grows : goal.returns-clause-grows
 returns-clause-grows c =
-    let widths = input_widths c.args.design.now in
+    let widths = input_widths c.args.context.now.design.now in
     grows_on widths c.args.net.now c.visit.new.net c.mark.new.net c.visit.ensures.grows
     (grows_on widths c.visit.new.net c.lead-2.new.net c.mark.new.net (grows_on widths c.visit.new.net c.lead.new.net c.lead-2.new.net (c.lead.ensures.grows widths) (c.lead-2.ensures.grows widths)) (c.mark.ensures.grows widths))
 
 pub returns-clause-wires : goal.returns-clause-wires
 returns-clause-wires c =
-    let widths = input_widths c.args.design.now in
-    let registers = register_widths c.args.design.now in
+    let widths = input_widths c.args.context.now.design.now in
+    let registers = register_widths c.args.context.now.design.now in
     let old = c.args.cycle.now in
     let last : Grows [] c.visit.new.net c.mark.new.net = grows_on [] c.visit.new.net c.lead-2.new.net c.mark.new.net (grows_on [] c.visit.new.net c.lead.new.net c.lead-2.new.net (c.lead.ensures.grows []) (c.lead-2.ensures.grows [])) (c.mark.ensures.grows []) in
     let all : Grows widths c.args.net.now c.mark.new.net =
@@ -86,7 +86,7 @@ returns-clause-wires c =
         each_start = ports.each_start;
         log = log_kept [] c.visit.new.net c.mark.new.net registers c.in_ok-tried.tried.log last c.in_ok-tried.ensures.log;
       };
-      visited = flags_kept [] c.lead-2.new.net c.mark.new.net c.lead-2.new.visited (length c.args.design.now.nodes) (c.mark.ensures.grows [])
+      visited = flags_kept [] c.lead-2.new.net c.mark.new.net c.lead-2.new.visited (length c.args.context.now.design.now.nodes) (c.mark.ensures.grows [])
           (subst (λ (n : ℕ). AreFlags c.lead-2.new.net n c.lead-2.new.visited) (c.in_ok-lead.ensures.flags.count ∙ c.requires.wires.visited.count) c.in_ok-lead-2.ensures.flags);
       fired = subst (λ (n : ℕ). AreFlags c.mark.new.net n c.mark.new.flags) c.requires.wires.fired.count c.in_ok-mark.ensures.flags;
     }
@@ -96,7 +96,7 @@ returns-clause-walk c s values regs now are stands =
     let third = values_before s [] c.lead-2.new.net c.mark.new.net values (c.mark.ensures.grows []) are in
     let second = values_before s [] c.lead.new.net c.lead-2.new.net values (c.lead-2.ensures.grows []) third in
     let first = values_before s [] c.visit.new.net c.lead.new.net values (c.lead.ensures.grows []) second in
-    let design = c.args.design.now in
+    let design = c.args.context.now.design.now in
     let widths = register_widths design in
     let node = c.args.node.now in
     let old = c.args.cycle.now in
