@@ -22,7 +22,7 @@ ghost use Rattle.board_core.specs.declared.event.BoardAnswer.TheVariants as answ
 
 use crate::counted::CountedBoard;
 use crate::event::{BoardAnswer, BoardEvent};
-use crate::kept::{MAX_CYCLES, MAX_WINDOW};
+use crate::kept::{MAX_CYCLES, MAX_WINDOW, Span};
 use attempt_log::{Attempt, JobAnswer, Settled, Submitted};
 use kw_bits::NoMemory;
 use one_rule::{Externs, Regs, Row, Rows, Stimulus};
@@ -79,7 +79,8 @@ impl Core {
         ensures opened { IfOk result (λ core. StandsFor core (opened core.opening)) }
         ensures plain { IfOk result (λ core. AtPlain core) }
     {
-        let board = CountedBoard::begin(alloc, design, stimulus, regs, from, to, window)?;
+        let span = Span { from, to, window };
+        let board = CountedBoard::begin(alloc, design, stimulus, regs, span)?;
         board.recall();
         Ok(Core { board, externs })
     }

@@ -16,7 +16,7 @@ ghost use Rattle.board_core.specs.declared.event.BoardAnswer.TheVariants as answ
 ghost use Rattle.board_core.specs.inner.Counts.{HasWeights, is_closing, is_stored, stale_rule};
 
 use crate::candidate::Candidate;
-use crate::kept::{KeptBoard, MAX_CYCLES, MAX_WINDOW};
+use crate::kept::{KeptBoard, Span};
 use attempt_log::{Attempt, Job, Settled, Submitted};
 use kw_bits::NoMemory;
 use one_rule::{Externs, Regs, Row, Rows, Stimulus};
@@ -58,22 +58,16 @@ impl CountedBoard {
         design: Arc<Design>,
         stimulus: Arc<Stimulus>,
         regs: Regs,
-        from: u32,
-        to: u32,
-        window: u32,
+        span: Span,
     ) -> Result<CountedBoard, NoMemory>
         requires stimulus { StimulusFits (arc_value design) (arc_value stimulus) }
         requires registers { HaveWidths (register_widths (arc_value design)) regs }
-        requires order { from ≤ to }
-        requires last { to ≤ MAX_CYCLES }
-        requires window { 1 ≤ window }
-        requires few_ahead { window ≤ MAX_WINDOW }
-        ensures opening { IfOk result (λ kept. kept.opening ≡ record { design = arc_value design; stimulus = arc_value stimulus; regs = regs; from = from; to = to; window = window }) }
+        ensures opening { IfOk result (λ kept. kept.opening ≡ record { design = arc_value design; stimulus = arc_value stimulus; regs = regs; from = span.from; to = span.to; window = span.window }) }
         ensures opened { IfOk result (λ kept. StandsFor kept (opened kept.opening)) }
     {
         let weights = weights_of(alloc, &design)?;
-        let counts = Vec::from_elem(alloc, design.nodes.len() as u64, window as usize)?;
-        let kept = KeptBoard::begin(alloc, design, stimulus, regs, from, to, window)?;
+        let counts = Vec::from_elem(alloc, design.nodes.len() as u64, span.window as usize)?;
+        let kept = KeptBoard::begin(alloc, design, stimulus, regs, span)?;
         kept.recall();
         Ok(CountedBoard {
             kept,

@@ -20,6 +20,7 @@ ghost use Rattle.board_core.specs.Candidates.{IsJobOf, Picks, candidates, first,
 ghost use Rattle.board_core.specs.inner.Search.{FindsIn, HasRule, comes_further};
 ghost use Rattle.board_core.specs.declared.candidate.Search.TheVariants as searched;
 ghost use Rattle.board_core.specs.declared.candidate.Candidate.{Candidate};
+ghost use Rattle.board_core.specs.declared.kept.TheConstants.{MAX_CYCLES, MAX_WINDOW};
 ghost use Rattle.typed_core.specs.Continuations.{is_at};
 ghost use Rattle.board_core.specs.declared.event.BoardAnswer.TheVariants as answer;
 
@@ -40,6 +41,18 @@ pub const MAX_CYCLES: u32 = 16_777_216;
 
 /// A board takes attempts for at most this many cycles at a time.
 pub const MAX_WINDOW: u32 = 16;
+
+/// The cycles of a board: those after one up to another, and for how many at a time it takes attempts.
+#[derive(Drop)]
+pub(crate) struct Span {
+    pub(crate) from: u32,
+    pub(crate) to: u32,
+    pub(crate) window: u32,
+    ghost order: { from ≤ to },
+    ghost last: { to ≤ MAX_CYCLES },
+    ghost some_ahead: { 1 ≤ window },
+    ghost few_ahead: { window ≤ MAX_WINDOW },
+}
 
 // A board without its externs: the rows of the cycles that are closed, the place in the current one, and the attempts
 // that stand.
@@ -82,20 +95,15 @@ impl KeptBoard {
         design: Arc<Design>,
         stimulus: Arc<Stimulus>,
         regs: Regs,
-        from: u32,
-        to: u32,
-        window: u32,
+        span: Span,
     ) -> Result<KeptBoard, NoMemory>
         requires stimulus { StimulusFits (arc_value design) (arc_value stimulus) }
         requires registers { HaveWidths (register_widths (arc_value design)) regs }
-        requires order { from ≤ to }
-        requires last { to ≤ MAX_CYCLES }
-        requires window { 1 ≤ window }
-        requires few_ahead { window ≤ MAX_WINDOW }
-        ensures opening { IfOk result (λ kept. kept.opening ≡ record { design = arc_value design; stimulus = arc_value stimulus; regs = regs; from = from; to = to; window = window }) }
+        ensures opening { IfOk result (λ kept. kept.opening ≡ record { design = arc_value design; stimulus = arc_value stimulus; regs = regs; from = span.from; to = span.to; window = span.window }) }
         ensures opened { IfOk result (λ kept. StandsFor kept (opened kept.opening)) }
     {
         stimulus.recall();
+        let Span { from, to, window } = span;
         let cycles = (to - from) as usize;
         let mut rows = Reserved::with_capacity(alloc, cycles + 1)?;
         let copy = Regs::from_slice(alloc, regs.as_slice())?;

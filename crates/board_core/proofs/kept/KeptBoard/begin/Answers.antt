@@ -22,10 +22,10 @@ use Rattle.board_core.proofs.kept.KeptBoard.begin.Goals as goal
 pub invariant_of-result : goal.invariant_of-result
 invariant_of-result c =
     let a = c.args in
-    let o : Opening = record { design = arc_value a.design; stimulus = arc_value a.stimulus; regs = a.regs; from = a.from; to = a.to; window = a.window } in
+    let o : Opening = record { design = arc_value a.design; stimulus = arc_value a.stimulus; regs = a.regs; from = a.span.from; to = a.span.to; window = a.span.window } in
     let valid : IsValid o.design = subst IsValid (c.behind-design.view_is ∙ c.deref-5.ensures) c.behind-design.invariant in
     let always : AlwaysFits o.stimulus = subst AlwaysFits c.deref.ensures c.recall.ensures in
-    let sure : IsOpening o = record { design = valid; stimulus = c.requires.stimulus; always = always; registers = c.requires.registers; order = c.requires.order } in
+    let sure : IsOpening o = record { design = valid; stimulus = c.requires.stimulus; always = always; registers = c.requires.registers; order = a.span.order } in
     let place = c.in_ok-new.field-0 in
     let at : IsAt o.design place (start o.design.nodes (begin o.regs)) [] = subst (λ (d : Parts). IsAt d place (start d.nodes (begin o.regs)) []) c.deref-3.ensures c.in_ok-new.ensures.at in
     let row : c.in_ok-opening.field-0 ≡ opening (length o.design.rules) o.regs =
@@ -43,15 +43,15 @@ invariant_of-result c =
     let capacity = ap (λ (r : ReservedList Row). r.capacity) held ∙ ap (λ (r : ReservedList Row). r.capacity) c.in_ok-rows.ensures in
     subst (λ (rs : List Row). IsSound (kept_by o.design o.stimulus o.from o.to o.window (o.from + 1) place rs c.in_ok-empty_slots.field-0.items) blanks room) (sym rows)
     (subst (λ (ss : List (List (Option Attempted))). IsSound (kept_by o.design o.stimulus o.from o.to o.window (o.from + 1) place (opening (length o.design.rules) o.regs ∷ []) ss) blanks room) (sym slots)
-    (sound.begun_sound o sure place at blanks room c.requires.last c.requires.window c.requires.few_ahead shape all (omega (arith, c.in_ok-room.ensures.count, c.requires.order)) (omega (arith, c.in_ok-room.ensures.count, capacity, c.requires.order))))
+    (sound.begun_sound o sure place at blanks room a.span.last a.span.some_ahead a.span.few_ahead shape all (omega (arith, c.in_ok-room.ensures.count, a.span.order)) (omega (arith, c.in_ok-room.ensures.count, capacity, a.span.order))))
 
 pub returns-clause-opened : goal.returns-clause-opened
 returns-clause-opened c =
     let a = c.args in
-    let o : Opening = record { design = arc_value a.design; stimulus = arc_value a.stimulus; regs = a.regs; from = a.from; to = a.to; window = a.window } in
+    let o : Opening = record { design = arc_value a.design; stimulus = arc_value a.stimulus; regs = a.regs; from = a.span.from; to = a.span.to; window = a.span.window } in
     let valid : IsValid o.design = subst IsValid (c.behind-design.view_is ∙ c.deref-5.ensures) c.behind-design.invariant in
     let always : AlwaysFits o.stimulus = subst AlwaysFits c.deref.ensures c.recall.ensures in
-    let sure : IsOpening o = record { design = valid; stimulus = c.requires.stimulus; always = always; registers = c.requires.registers; order = c.requires.order } in
+    let sure : IsOpening o = record { design = valid; stimulus = c.requires.stimulus; always = always; registers = c.requires.registers; order = a.span.order } in
     let place = c.in_ok-new.field-0 in
     let at : IsAt o.design place (start o.design.nodes (begin o.regs)) [] = subst (λ (d : Parts). IsAt d place (start d.nodes (begin o.regs)) []) c.deref-3.ensures c.in_ok-new.ensures.at in
     let row : c.in_ok-opening.field-0 ≡ opening (length o.design.rules) o.regs =
