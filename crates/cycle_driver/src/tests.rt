@@ -3,16 +3,13 @@
 ghost use Rattle.std.specs.Prelude.{◌≡◌, ◌≤◌, [], ◌∷◌, IfOk, map};
 ghost use Rattle.std.specs.Arc.{arc_value};
 ghost use Rattle.kw_bits.specs.Laws.{HasWidth};
-ghost use Rattle.typed_core.specs.Valid.{externs_of};
 ghost use Rattle.typed_core.specs.Widths.{HaveWidths, register_widths};
-ghost use Rattle.one_rule.specs.Externs.{kept};
-ghost use Rattle.one_rule.specs.Stimulus.{StimulusFits};
 
 use super::{run_batch, run_threaded};
 use attempt_log::{Gate, JobAnswer, NoGate, Report, attempt};
 use board_core::{Board, Core};
 use kw_bits::{Bits, NoMemory, Sequence, Text};
-use one_rule::{Externs, Regs, Row, Rows, Stimulus};
+use one_rule::{Externs, Regs, Row, Rows, Stimulus, Workload};
 use std::alloc::Global;
 use std::process::Abort;
 use std::sync::atomic::{AtomicU64, Ordering};
@@ -109,16 +106,12 @@ fn count_of(alloc: Global, count: u8) -> Result<Regs, NoMemory>
     Ok(regs)
 }
 
-// What a run is made of: a design that asks nothing, with what it is given, and the registers that it goes on from.
+// What a run is made of, and the registers that it goes on from.
 #[derive(Drop)]
 struct Setting {
-    design: Arc<Design>,
-    externs: Arc<Externs>,
-    stimulus: Arc<Stimulus>,
+    workload: Workload,
     regs: Regs,
-    ghost externs_fit: { kept (arc_value externs) ≡ externs_of (arc_value design) },
-    ghost stimulus_fits: { StimulusFits (arc_value design) (arc_value stimulus) },
-    ghost regs_fit: { HaveWidths (register_widths (arc_value design)) regs },
+    ghost regs_fit: { HaveWidths (register_widths (arc_value workload.design)) regs },
 }
 
 // The counter from one number, which has come to another.
@@ -127,22 +120,22 @@ fn setting_of(alloc: Global, first: u8, count: u8) -> Result<Setting, NoMemory> 
     let externs = Externs::new(alloc, &design, &[])?;
     let stimulus = Stimulus::new(alloc, Vec::new(alloc));
     let regs = count_of(alloc, count)?;
-    Ok(Setting {
+    let workload = Workload {
         design: Arc::new(alloc, design)?,
         externs: Arc::new(alloc, externs)?,
         stimulus: Arc::new(alloc, stimulus)?,
-        regs,
-    })
+    };
+    Ok(Setting { workload, regs })
 }
 
 // A core of two cycles of a counter from this number.
 fn core_of(alloc: Global, first: u8) -> Result<Core, NoMemory> {
-    let Setting {
+    let Setting { workload, regs } = setting_of(alloc, first, first)?;
+    let Workload {
         design,
         externs,
         stimulus,
-        regs,
-    } = setting_of(alloc, first, first)?;
+    } = workload;
     Core::begin(alloc, design, externs, stimulus, regs, 0, 2, 4)
 }
 
@@ -313,36 +306,43 @@ fn threaded<B: Board, R: Abort + Threads + Wait + Sync>(
     requires some { 1 ≤ workers }
     requires most { workers ≤ 64 }
 {
-    let Setting {
+    let Setting { workload, .. } = setting_of(alloc, first, first).expect(rt, MEMORY);
+    let Workload {
         design,
         externs,
         stimulus,
-        ..
-    } = setting_of(alloc, first, first).expect(rt, MEMORY);
+    } = workload;
     run_threaded::<B, R>(rt, alloc, design, externs, stimulus, n, workers, gate).expect(rt, MEMORY)
 }
 
-// The rows that workers make of a counter from 0 that has come to this number.
-fn batch<B: Board, R: Abort + Threads + Wait + Sync>(
-    rt: &R,
-    alloc: Global,
+// The cycles from one to another of a counter from 0 that has come to a number.
+#[derive(Clone, Copy)]
+struct Stretch {
     count: u8,
     from: u32,
     to: u32,
+}
+
+// The rows that workers make of a stretch.
+fn batch<B: Board, R: Abort + Threads + Wait + Sync>(
+    rt: &R,
+    alloc: Global,
+    stretch: Stretch,
     workers: u32,
     gate: &(dyn Gate + Sync),
 ) -> Rows
-    requires order { from ≤ to }
-    requires last { to ≤ 1000 }
+    requires order { stretch.from ≤ stretch.to }
+    requires last { stretch.to ≤ 1000 }
     requires some { 1 ≤ workers }
     requires most { workers ≤ 64 }
 {
-    let Setting {
+    let Stretch { count, from, to } = stretch;
+    let Setting { workload, regs } = setting_of(alloc, 0, count).expect(rt, MEMORY);
+    let Workload {
         design,
         externs,
         stimulus,
-        regs,
-    } = setting_of(alloc, 0, count).expect(rt, MEMORY);
+    } = workload;
     run_batch::<B, R>(
         rt, alloc, design, externs, stimulus, regs, from, to, workers, gate,
     )
@@ -353,7 +353,12 @@ fn batch<B: Board, R: Abort + Threads + Wait + Sync>(
 fn rows_are_those_of_the_closed_core(rt: HostRuntime) {
     let rows = threaded::<StrayBoard, HostRuntime>(&rt, rt.alloc(), 0, 2, 1, &NoGate);
     assert_counts(&rt, rows.as_slice(), 255, 2);
-    let rows = batch::<StrayBoard, HostRuntime>(&rt, rt.alloc(), 0, 0, 2, 1, &NoGate);
+    let two = Stretch {
+        count: 0,
+        from: 0,
+        to: 2,
+    };
+    let rows = batch::<StrayBoard, HostRuntime>(&rt, rt.alloc(), two, 1, &NoGate);
     assert_counts(&rt, rows.as_slice(), 255, 2);
 }
 
@@ -374,7 +379,9 @@ fn a_batch_goes_on_from_its_registers(rt: HostRuntime) {
     // The first cycle that is run before, the last one, and the turns of each worker.
     for (from, to, turns) in [(0, 3, 40), (7, 7, 16), (254, 259, 56)] {
         let gate = Noting::new();
-        let rows = batch::<LoneBoard, HostRuntime>(&rt, rt.alloc(), 100, from, to, 3, &gate);
+        let count = 100;
+        let later = Stretch { count, from, to };
+        let rows = batch::<LoneBoard, HostRuntime>(&rt, rt.alloc(), later, 3, &gate);
         assert_counts(&rt, rows.as_slice(), 100, (to - from) as u8);
         assert_eq!(rt; gate.turns.load(Ordering::SeqCst), turns);
     }
