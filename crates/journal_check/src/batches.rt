@@ -18,7 +18,7 @@ use crate::replay::{refusal, replay};
 use kw_base::Refusal;
 use kw_base::fault_number::WRONG_BATCH;
 use kw_bits::{NoMemory, Sequence};
-use one_rule::{Externs, Regs, Row, Rows, Stimulus, first_values, opening};
+use one_rule::{Externs, Regs, Row, Rows, Stimulus, Workload, first_values, opening};
 use std::alloc::Global;
 use std::sync::Arc;
 use typed_core::Design;
@@ -45,20 +45,29 @@ pub fn recheck(
     ensures fit { IfOk result (λ rows. RowsFit (arc_value design) rows) }
     ensures fault { IfFault result (λ fault. IsFirstJournalFault (arc_value design) (arc_value stimulus) n journal fault) }
 {
-    runs_fit(&design, &stimulus);
-    let mut rows = first_rows(alloc, &design)?;
-    let mut from = 0;
+    let workload = Workload {
+        design,
+        externs,
+        stimulus,
+    };
+    runs_fit(&workload.design, &workload.stimulus);
+    let rows = first_rows(alloc, &workload.design)?;
+    let mut done = Rechecked { cycle: 0, rows };
     for batch in journal.batches.as_slice() {
-        let regs = last_regs(alloc, &rows)?;
-        recheck_batch(
-            alloc, &design, &externs, &stimulus, regs, &mut rows, from, n, batch,
-        )?;
-        from = batch.to;
+        let regs = last_regs(alloc, &done.rows)?;
+        recheck_batch(alloc, &workload, regs, &mut done, n, batch)?;
     }
-    if from != n {
+    if done.cycle != n {
         return Err(refusal(WRONG_BATCH, journal.line));
     }
-    Ok(rows)
+    Ok(done.rows)
+}
+
+// How far a run is rechecked: up to this cycle, with its rows up to there.
+#[derive(Drop)]
+struct Rechecked {
+    cycle: u32,
+    rows: Rows,
 }
 
 // The rows of each run of a design fit it, with a stimulus for its inputs.
@@ -80,36 +89,33 @@ fn first_rows(alloc: Global, design: &Design) -> Result<Rows, NoMemory>
     Ok(rows)
 }
 
-// Adds the rows of a batch, if it is good after cycle `from`, which left these registers in the last row.
+// Adds the rows of a batch, if it is good after the cycles that are done, which left these registers in the last row.
 fn recheck_batch(
     alloc: Global,
-    design: &Arc<Design>,
-    externs: &Arc<Externs>,
-    stimulus: &Arc<Stimulus>,
+    workload: &Workload,
     regs: Regs,
-    rows: &mut Rows,
-    from: u32,
+    done: &mut Rechecked,
     n: u32,
     batch: &Batch,
 ) -> Result<(), Refusal>
-    requires externs { kept (arc_value externs.now) ≡ externs_of (arc_value design.now) }
-    requires stimulus { StimulusFits (arc_value design.now) (arc_value stimulus.now) }
-    requires within { from ≤ n }
+    requires within { done.old.cycle ≤ n }
     requires last { n ≤ MAX_CYCLES }
-    requires fits { BatchFits (arc_value design.now) (arc_value stimulus.now) batch.now }
-    requires rows { rows.old ≡ run_of (arc_value design.now) (inputs_of (arc_value stimulus.now)) from }
-    requires registers { regs ≡ last_registers [] rows.old }
-    requires widths { HaveWidths (register_widths (arc_value design.now)) regs }
-    ensures rows { OnOk result (rows.new ≡ run_of (arc_value design.now) (inputs_of (arc_value stimulus.now)) batch.now.to) }
-    ensures good { let o = opening_of (arc_value design.now) (arc_value stimulus.now) regs batch.now in OnOk result (IsGoodBatch n from o batch.now) }
-    ensures left { let o = opening_of (arc_value design.now) (arc_value stimulus.now) regs batch.now in OnOk result (left_by o batch.now.entries ≡ last_registers [] rows.new) }
-    ensures fault { let o = opening_of (arc_value design.now) (arc_value stimulus.now) regs batch.now in IfFault result (IsFaultOf n from o batch.now) }
+    requires fits { BatchFits (arc_value workload.now.design) (arc_value workload.now.stimulus) batch.now }
+    requires rows { done.old.rows ≡ run_of (arc_value workload.now.design) (inputs_of (arc_value workload.now.stimulus)) done.old.cycle }
+    requires registers { regs ≡ last_registers [] done.old.rows }
+    requires widths { HaveWidths (register_widths (arc_value workload.now.design)) regs }
+    ensures cycle { OnOk result (done.new.cycle ≡ batch.now.to) }
+    ensures rows { OnOk result (done.new.rows ≡ run_of (arc_value workload.now.design) (inputs_of (arc_value workload.now.stimulus)) batch.now.to) }
+    ensures good { let o = opening_of (arc_value workload.now.design) (arc_value workload.now.stimulus) regs batch.now in OnOk result (IsGoodBatch n done.old.cycle o batch.now) }
+    ensures left { let o = opening_of (arc_value workload.now.design) (arc_value workload.now.stimulus) regs batch.now in OnOk result (left_by o batch.now.entries ≡ last_registers [] done.new.rows) }
+    ensures fault { let o = opening_of (arc_value workload.now.design) (arc_value workload.now.stimulus) regs batch.now in IfFault result (IsFaultOf n done.old.cycle o batch.now) }
 {
-    if !is_due(batch, from, n) {
+    if !is_due(batch, done.cycle, n) {
         return Err(refusal(WRONG_BATCH, batch.line));
     }
-    let core = replay(alloc, design, externs, stimulus, regs, batch)?;
-    add_rows(alloc, rows, later_rows(core.rows()))?;
+    let core = replay(alloc, workload, regs, batch)?;
+    add_rows(alloc, &mut done.rows, later_rows(core.rows()))?;
+    done.cycle = batch.to;
     Ok(())
 }
 

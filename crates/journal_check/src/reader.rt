@@ -45,22 +45,29 @@ pub fn read_journal(
     ensures fault { IfFault result (IsFirstMalformed design.now stimulus.now first_line bytes.now) }
 {
     let names = Vocabulary::new(alloc, design)?;
-    read_lines(alloc, &names, stimulus, bytes, first_line)
+    let reader = LineReader { names, stimulus };
+    read_lines(alloc, &reader, bytes, first_line)
+}
+
+// What lines are read by: the names of a design, and a stimulus for it.
+#[derive(Drop)]
+struct LineReader<'a> {
+    names: Vocabulary<'a>,
+    stimulus: &'a Stimulus,
 }
 
 fn read_lines(
     alloc: Global,
-    names: &Vocabulary<'_>,
-    stimulus: &Stimulus,
+    reader: &LineReader<'_>,
     bytes: &[u8],
     first_line: u32,
 ) -> Result<Journal, Refusal>
-    requires { Knows names.now.design.now names.now.registers names.now.rules }
-    ensures journal { IfOk result (IsJournal names.now.design.now stimulus.now first_line bytes.now) }
-    ensures fault { IfFault result (IsFirstMalformed names.now.design.now stimulus.now first_line bytes.now) }
+    requires { Knows reader.now.names.design.now reader.now.names.registers reader.now.names.rules }
+    ensures journal { IfOk result (IsJournal reader.now.names.design.now reader.now.stimulus.now first_line bytes.now) }
+    ensures fault { IfFault result (IsFirstMalformed reader.now.names.design.now reader.now.stimulus.now first_line bytes.now) }
 {
     let mut page = Text::new(alloc);
-    let beginning = read_beginning(alloc, names, stimulus, &mut page, bytes, first_line)?;
+    let beginning = read_beginning(alloc, reader, &mut page, bytes, first_line)?;
     let mut journal = Journal {
         workers: beginning.workers,
         line: first_line,
@@ -69,15 +76,7 @@ fn read_lines(
     let mut number = first_line.saturating_add(1);
     let mut rest = beginning.rest;
     while let Some(line) = next_line(rest) {
-        add_line(
-            alloc,
-            names,
-            stimulus,
-            &mut page,
-            &mut journal,
-            line.bytes,
-            number,
-        )?;
+        add_line(alloc, reader, &mut page, &mut journal, line.bytes, number)?;
         number = number.saturating_add(1);
         rest = line.rest;
     }
@@ -93,21 +92,20 @@ struct Beginning<'a> {
 
 fn read_beginning<'a>(
     alloc: Global,
-    names: &Vocabulary<'_>,
-    stimulus: &Stimulus,
+    reader: &LineReader<'_>,
     page: &mut Text,
     bytes: &'a [u8],
     number: u32,
 ) -> Result<Beginning<'a>, Refusal>
-    requires { Knows names.now.design.now names.now.registers names.now.rules }
-    ensures begins { IfOk result (λ begun. LineFits names.now.design.now stimulus.now begun.workers (lines.Begins begun.workers)
-        × (lines_of bytes.now ≡ line_text names.now.design.now (lines.Begins begun.workers) ∷ lines_of begun.rest.now)) }
-    ensures fault { IfFault result (λ fault. (fault ≡ malformed_at number) × NoneFollows names.now.design.now stimulus.now None (lines_of bytes.now)) }
+    requires { Knows reader.now.names.design.now reader.now.names.registers reader.now.names.rules }
+    ensures begins { IfOk result (λ begun. LineFits reader.now.names.design.now reader.now.stimulus.now begun.workers (lines.Begins begun.workers)
+        × (lines_of bytes.now ≡ line_text reader.now.names.design.now (lines.Begins begun.workers) ∷ lines_of begun.rest.now)) }
+    ensures fault { IfFault result (λ fault. (fault ≡ malformed_at number) × NoneFollows reader.now.names.design.now reader.now.stimulus.now None (lines_of bytes.now)) }
 {
     let Some(line) = next_line(bytes) else {
         return Err(refusal(Failure::Why(Malformed), number));
     };
-    let workers = read_workers(alloc, names, stimulus, page, line.bytes, number)?;
+    let workers = read_workers(alloc, reader, page, line.bytes, number)?;
     Ok(Beginning {
         workers,
         rest: line.rest,
@@ -117,18 +115,17 @@ fn read_beginning<'a>(
 // How many workers a first line says there were.
 fn read_workers(
     alloc: Global,
-    names: &Vocabulary<'_>,
-    stimulus: &Stimulus,
+    reader: &LineReader<'_>,
     page: &mut Text,
     bytes: &[u8],
     number: u32,
 ) -> Result<u32, Refusal>
-    requires { Knows names.now.design.now names.now.registers names.now.rules }
-    ensures fits { IfOk result (λ workers. LineFits names.now.design.now stimulus.now workers (lines.Begins workers)) }
-    ensures text { IfOk result (λ workers. bytes.now ≡ line_text names.now.design.now (lines.Begins workers)) }
-    ensures fault { IfFault result (IsMalformed names.now.design.now (MayFollow names.now.design.now stimulus.now None) bytes.now number) }
+    requires { Knows reader.now.names.design.now reader.now.names.registers reader.now.names.rules }
+    ensures fits { IfOk result (λ workers. LineFits reader.now.names.design.now reader.now.stimulus.now workers (lines.Begins workers)) }
+    ensures text { IfOk result (λ workers. bytes.now ≡ line_text reader.now.names.design.now (lines.Begins workers)) }
+    ensures fault { IfFault result (IsMalformed reader.now.names.design.now (MayFollow reader.now.names.design.now reader.now.stimulus.now None) bytes.now number) }
 {
-    let line = read_line(alloc, names, stimulus, page, 0, bytes, number)?;
+    let line = read_line(alloc, reader, page, 0, bytes, number)?;
     match line {
         JournalLine::Begins { workers } => Ok(workers),
         JournalLine::Batch { .. } => Err(refusal(Failure::Why(Malformed), number)),
@@ -139,19 +136,18 @@ fn read_workers(
 // Adds what a later line says.
 fn add_line(
     alloc: Global,
-    names: &Vocabulary<'_>,
-    stimulus: &Stimulus,
+    reader: &LineReader<'_>,
     page: &mut Text,
     journal: &mut Journal,
     bytes: &[u8],
     number: u32,
 ) -> Result<(), Refusal>
-    requires knows { Knows names.now.design.now names.now.registers names.now.rules }
+    requires knows { Knows reader.now.names.design.now reader.now.names.registers reader.now.names.rules }
     requires few { IsSmall journal.old.workers }
-    ensures adds { OnOk result ((l : LineOf) × MayFollow names.now.design.now stimulus.now (Some journal.old) l × (bytes.now ≡ line_text names.now.design.now l) × Adds journal.old journal.new number l) }
-    ensures fault { IfFault result (IsMalformed names.now.design.now (MayFollow names.now.design.now stimulus.now (Some journal.old)) bytes.now number) }
+    ensures adds { OnOk result ((l : LineOf) × MayFollow reader.now.names.design.now reader.now.stimulus.now (Some journal.old) l × (bytes.now ≡ line_text reader.now.names.design.now l) × Adds journal.old journal.new number l) }
+    ensures fault { IfFault result (IsMalformed reader.now.names.design.now (MayFollow reader.now.names.design.now reader.now.stimulus.now (Some journal.old)) bytes.now number) }
 {
-    let line = read_line(alloc, names, stimulus, page, journal.workers, bytes, number)?;
+    let line = read_line(alloc, reader, page, journal.workers, bytes, number)?;
     match line {
         JournalLine::Begins { .. } => Err(refusal(Failure::Why(Malformed), number)),
         JournalLine::Batch { from, to } => add_batch(alloc, &mut journal.batches, from, to, number),
@@ -198,26 +194,25 @@ fn add_entry(batches: &mut Sequence<Batch>, entry: Entry, number: u32) -> Result
 // What the line of a number says, if it fits and is printed so.
 fn read_line(
     alloc: Global,
-    names: &Vocabulary<'_>,
-    stimulus: &Stimulus,
+    reader: &LineReader<'_>,
     page: &mut Text,
     workers: u32,
     bytes: &[u8],
     number: u32,
 ) -> Result<JournalLine, Refusal>
-    requires { Knows names.now.design.now names.now.registers names.now.rules }
-    ensures line { IfOk result (λ l. LineFits names.now.design.now stimulus.now workers l × (bytes.now ≡ line_text names.now.design.now l)) }
-    ensures fault { IfFault result (IsMalformed names.now.design.now (LineFits names.now.design.now stimulus.now workers) bytes.now number) }
+    requires { Knows reader.now.names.design.now reader.now.names.registers reader.now.names.rules }
+    ensures line { IfOk result (λ l. LineFits reader.now.names.design.now reader.now.stimulus.now workers l × (bytes.now ≡ line_text reader.now.names.design.now l)) }
+    ensures fault { IfFault result (IsMalformed reader.now.names.design.now (LineFits reader.now.names.design.now reader.now.stimulus.now workers) bytes.now number) }
 {
-    let line = match line(alloc, names, stimulus, bytes) {
+    let line = match line(alloc, &reader.names, reader.stimulus, bytes) {
         Ok(line) => line,
         Err(flaw) => return Err(refusal(flaw, number)),
     };
-    names.design.recall();
+    reader.names.design.recall();
     if !is_allowed(&line, workers) {
         return Err(refusal(Failure::Why(Malformed), number));
     }
-    let printed = is_printed_so(page, names.design, &line, bytes)?;
+    let printed = is_printed_so(page, reader.names.design, &line, bytes)?;
     if !printed {
         return Err(refusal(Failure::Why(Malformed), number));
     }

@@ -4,10 +4,7 @@ ghost use Rattle.std.specs.Prelude.{◌≡◌, ◌≤◌, ◌<◌, ◌↔◌, Is
 ghost use Rattle.std.specs.Arc.{arc_value};
 ghost use Rattle.kw_base.specs.Fault.{IfFault};
 ghost use Rattle.kw_base.specs.declared.fault.Refusal.TheVariants as refusals;
-ghost use Rattle.typed_core.specs.Valid.{externs_of};
 ghost use Rattle.typed_core.specs.Widths.{HaveWidths, input_widths, register_widths};
-ghost use Rattle.one_rule.specs.Externs.{kept};
-ghost use Rattle.one_rule.specs.Stimulus.{StimulusFits};
 ghost use Rattle.attempt_log.specs.Setting.{IsFor};
 ghost use Rattle.attempt_log.specs.Trace.{IsTrace};
 ghost use Rattle.board_core.specs.Board.{opened, setting_of};
@@ -25,10 +22,10 @@ use board_core::Core;
 use kw_base::fault_number::{NO_TRACE, WRONG_ANSWER, WRONG_BATCH};
 use kw_base::{Fault, Place, Refusal};
 use kw_bits::NoMemory;
-use one_rule::{Externs, Inputs, Regs, Stimulus};
+use one_rule::{Inputs, Regs, Workload};
 use std::alloc::Global;
 use std::sync::Arc;
-use typed_core::{Design, Events, Outcome};
+use typed_core::{Events, Outcome};
 
 /// How many cycles workers may be ahead, the current one included.
 const WINDOW: u32 = 4;
@@ -36,34 +33,28 @@ const WINDOW: u32 = 4;
 /// A core on these registers that the entries of a batch leave, if they are legal and close all its cycles.
 pub(crate) fn replay(
     alloc: Global,
-    design: &Arc<Design>,
-    externs: &Arc<Externs>,
-    stimulus: &Arc<Stimulus>,
+    workload: &Workload,
     regs: Regs,
     batch: &Batch,
 ) -> Result<Core, Refusal>
-    requires externs { kept (arc_value externs.now) ≡ externs_of (arc_value design.now) }
-    requires stimulus { StimulusFits (arc_value design.now) (arc_value stimulus.now) }
-    requires registers { HaveWidths (register_widths (arc_value design.now)) regs }
+    requires registers { HaveWidths (register_widths (arc_value workload.now.design)) regs }
     requires order { batch.now.from ≤ batch.now.to }
     requires last { batch.now.to ≤ MAX_CYCLES }
-    requires fits { BatchFits (arc_value design.now) (arc_value stimulus.now) batch.now }
-    ensures legal { let o = opening_of (arc_value design.now) (arc_value stimulus.now) regs batch.now in IfOk result (λ core. IsLegal o batch.now.entries) }
-    ensures closes { let o = opening_of (arc_value design.now) (arc_value stimulus.now) regs batch.now in IfOk result (λ core. Closes o batch.now.entries) }
-    ensures leaves { let o = opening_of (arc_value design.now) (arc_value stimulus.now) regs batch.now in IfOk result (λ core. Leaves o batch.now.entries core) }
-    ensures fault { IfFault result (IsFaultOfEntries (opening_of (arc_value design.now) (arc_value stimulus.now) regs batch.now) batch.now) }
+    requires fits { BatchFits (arc_value workload.now.design) (arc_value workload.now.stimulus) batch.now }
+    ensures legal { let o = opening_of (arc_value workload.now.design) (arc_value workload.now.stimulus) regs batch.now in IfOk result (λ core. IsLegal o batch.now.entries) }
+    ensures closes { let o = opening_of (arc_value workload.now.design) (arc_value workload.now.stimulus) regs batch.now in IfOk result (λ core. Closes o batch.now.entries) }
+    ensures leaves { let o = opening_of (arc_value workload.now.design) (arc_value workload.now.stimulus) regs batch.now in IfOk result (λ core. Leaves o batch.now.entries core) }
+    ensures fault { IfFault result (IsFaultOfEntries (opening_of (arc_value workload.now.design) (arc_value workload.now.stimulus) regs batch.now) batch.now) }
 {
+    let Workload {
+        design,
+        externs,
+        stimulus,
+    } = workload.try_clone()?;
     let mut core = Core::begin(
-        alloc,
-        Arc::try_clone(design)?,
-        Arc::try_clone(externs)?,
-        Arc::try_clone(stimulus)?,
-        regs,
-        batch.from,
-        batch.to,
-        WINDOW,
+        alloc, design, externs, stimulus, regs, batch.from, batch.to, WINDOW,
     )?;
-    make_entries(alloc, design, externs, &mut core, batch)?;
+    make_entries(alloc, workload, &mut core, batch)?;
     if !has_closed_all(&core) {
         return Err(refusal(WRONG_BATCH, batch.line));
     }
@@ -81,21 +72,19 @@ fn has_closed_all(core: &Core) -> bool
 // Makes the entries of a batch on a core that has made none, up to the first that is wrong.
 fn make_entries(
     alloc: Global,
-    design: &Arc<Design>,
-    externs: &Arc<Externs>,
+    workload: &Workload,
     core: &mut Core,
     batch: &Batch,
 ) -> Result<(), Refusal>
-    requires externs { kept (arc_value externs.now) ≡ externs_of (arc_value design.now) }
-    requires design { core.old.opening.design ≡ arc_value design.now }
-    requires fits { BatchFits (arc_value design.now) core.old.opening.stimulus batch.now }
+    requires design { core.old.opening.design ≡ arc_value workload.now.design }
+    requires fits { BatchFits (arc_value workload.now.design) core.old.opening.stimulus batch.now }
     requires opened { StandsFor core.old (opened core.old.opening) }
     ensures legal { OnOk result (IsLegal core.old.opening batch.now.entries) }
     ensures leaves { OnOk result (Leaves core.old.opening batch.now.entries core.new) }
     ensures fault { IfFault result (IsFirstWrong core.old.opening batch.now) }
 {
     for (number, entry) in batch.entries.as_slice().iter().enumerate() {
-        make_entry(alloc, design, externs, core, entry, batch.lines[number])?;
+        make_entry(alloc, workload, core, entry, batch.lines[number])?;
     }
     Ok(())
 }
@@ -103,15 +92,13 @@ fn make_entries(
 // Makes an entry, if its attempt is a trace and the core answers as it says.
 fn make_entry(
     alloc: Global,
-    design: &Arc<Design>,
-    externs: &Externs,
+    workload: &Workload,
     core: &mut Core,
     entry: &Entry,
     line: u32,
 ) -> Result<(), Refusal>
-    requires externs { kept externs.now ≡ externs_of (arc_value design.now) }
-    requires design { core.old.opening.design ≡ arc_value design.now }
-    requires fits { SubmitsRule (arc_value design.now) core.old.opening.stimulus entry.now }
+    requires design { core.old.opening.design ≡ arc_value workload.now.design }
+    requires fits { SubmitsRule (arc_value workload.now.design) core.old.opening.stimulus entry.now }
     ensures ok { OnOk result (Makes core.old entry.now core.new) }
     ensures fault { IfFault result (IsFaultAt core.old entry.now line) }
 {
@@ -126,9 +113,14 @@ fn make_entry(
             answer,
             ..
         } => {
-            let made = traced(
-                alloc, design, externs, *cycle, *rule, inputs, events, *outcome,
-            )?;
+            let claim = Claim {
+                cycle: *cycle,
+                rule: *rule,
+                inputs,
+                events,
+                outcome: *outcome,
+            };
+            let made = traced(alloc, workload, &claim)?;
             match made {
                 Some(attempt) => submit(core, attempt, *answer, line),
                 None => Err(refusal(NO_TRACE, line)),
@@ -138,32 +130,38 @@ fn make_entry(
     }
 }
 
-// The attempt of a copy of these inputs and events, if they are a trace of the rule with this outcome.
-fn traced(
-    alloc: Global,
-    design: &Arc<Design>,
-    externs: &Externs,
+// What an entry says that an attempt is.
+#[derive(Clone, Copy)]
+struct Claim<'a> {
     cycle: u32,
     rule: u32,
-    inputs: &Inputs,
-    events: &Events,
+    inputs: &'a Inputs,
+    events: &'a Events,
     outcome: Outcome,
+}
+
+// The attempt of a copy of a claim's inputs and events, if they are a trace of its rule with its outcome.
+fn traced(
+    alloc: Global,
+    workload: &Workload,
+    claim: &Claim<'_>,
 ) -> Result<Option<Attempt>, NoMemory>
-    requires externs { kept externs.now ≡ externs_of (arc_value design.now) }
-    requires rule { rule < length (arc_value design.now).rules }
-    requires inputs { HaveWidths (input_widths (arc_value design.now)) inputs.now }
-    ensures some { IfOk result (λ made. IsSome made ↔ IsTrace (arc_value design.now) rule inputs.now (record { events = events.now; outcome = outcome })) }
+    requires rule { claim.now.rule < length (arc_value workload.now.design).rules }
+    requires inputs { HaveWidths (input_widths (arc_value workload.now.design)) claim.now.inputs.now }
+    ensures some { IfOk result (λ made. IsSome made ↔ IsTrace (arc_value workload.now.design) claim.now.rule claim.now.inputs.now (record { events = claim.now.events.now; outcome = claim.now.outcome })) }
     ensures attempt { IfOk result (λ made. IfSome made (λ a. a ≡ record {
-      design = arc_value design.now;
-      cycle = cycle;
-      rule = rule;
-      inputs = inputs.now;
-      run = record { events = events.now; outcome = outcome };
+      design = arc_value workload.now.design;
+      cycle = claim.now.cycle;
+      rule = claim.now.rule;
+      inputs = claim.now.inputs.now;
+      run = record { events = claim.now.events.now; outcome = claim.now.outcome };
     })) }
 {
-    let inputs = Inputs::from_slice(alloc, inputs.as_slice())?;
-    let events = Events::from_slice(alloc, events.as_slice())?;
-    let design = Arc::try_clone(design)?;
+    let inputs = Inputs::from_slice(alloc, claim.inputs.as_slice())?;
+    let events = Events::from_slice(alloc, claim.events.as_slice())?;
+    let design = Arc::try_clone(&workload.design)?;
+    let externs = &workload.externs;
+    let (cycle, rule, outcome) = (claim.cycle, claim.rule, claim.outcome);
     Attempt::of_trace(alloc, design, externs, cycle, rule, inputs, events, outcome)
 }
 

@@ -8,5 +8,5 @@ abbrev pub invariant-loop-batch : goal.invariant-loop-batch
 invariant-loop-batch l =
     record {
       items : l.batch-items ≡ l.fn.journal.batches;
-      so_far : HasRechecked (arc_value l.design) (arc_value l.stimulus) l.n l.fn.journal l.batch-index l.from l.rows;
+      so_far : HasRechecked (arc_value l.fn.design) (arc_value l.fn.stimulus) l.n l.fn.journal l.batch-index l.done.cycle l.done.rows;
     }

@@ -5,12 +5,12 @@ use Rattle.journal_check.proofs.Adding.{no_beginning, no_lines}
 use Rattle.journal_check.proofs.reader.read_beginning.Goals as goal
 
 pub returns-in_default-clause-fault : goal.returns-in_default-clause-fault
-returns-in_default-clause-fault c = no_lines c.args.names.now.design.now c.args.stimulus.now c.args.bytes.now c.args.number c.refusal.result c.refusal.ensures c.in_default.ensures.absent
+returns-in_default-clause-fault c = no_lines c.args.reader.now.names.design.now c.args.reader.now.stimulus.now c.args.bytes.now c.args.number c.refusal.result c.refusal.ensures c.in_default.ensures.absent
 
 pub returns-in_err-workers-clause-fault : goal.returns-in_err-workers-clause-fault
 returns-in_err-workers-clause-fault c =
     let p = err_from_is_err_and c.from_residual.result c.from_residual.ensures.1 in
-    rw (p.1, p.2) (no_beginning c.args.names.now.design.now c.args.stimulus.now c.args.bytes.now c.in-Some.line.bytes.now (lines_of c.in-Some.line.rest.now) c.args.number c.in_err-workers.field-0.0 c.in-Some.ensures.found c.in_err-workers.ensures.fault)
+    rw (p.1, p.2) (no_beginning c.args.reader.now.names.design.now c.args.reader.now.stimulus.now c.args.bytes.now c.in-Some.line.bytes.now (lines_of c.in-Some.line.rest.now) c.args.number c.in_err-workers.field-0.0 c.in-Some.ensures.found c.in_err-workers.ensures.fault)
 
 pub returns-clause-begins : goal.returns-clause-begins
 returns-clause-begins c =

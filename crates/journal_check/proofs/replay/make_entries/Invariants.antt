@@ -8,5 +8,5 @@ abbrev pub invariant-loop-number : goal.invariant-loop-number
 invariant-loop-number l =
     record {
       items : l.entry-items ≡ l.batch.entries;
-      so_far : IsSoFar (arc_value l.design) l.fn.core.opening l.entry-items l.number l.core;
+      so_far : IsSoFar (arc_value l.workload.design) l.fn.core.opening l.entry-items l.number l.core;
     }

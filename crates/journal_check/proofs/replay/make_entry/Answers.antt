@@ -12,7 +12,7 @@ use Rattle.journal_check.proofs.replay.make_entry.Goals as goal
 pub submit-requires : goal.submit-requires
 submit-requires c =
     let k = c.args.core.now in
-    let design = arc_value c.args.design.now in
+    let design = arc_value c.args.workload.now.design in
     let w = c.in-Submit in
     let fit = subst (SubmitsRule design k.opening.stimulus) c.in-Submit.is c.requires.fits in
     let made = subst (λ m. IfSome m (λ (a : Attempted). a ≡ attempted design w.cycle w.rule w.inputs w.events w.outcome)) c.in-Some.is c.in_ok-made-in-Submit.ensures.attempt in
@@ -21,7 +21,7 @@ submit-requires c =
 pub returns-in-Some-clause-ok : goal.returns-in-Some-clause-ok
 returns-in-Some-clause-ok c =
     let k = c.args.core.now in
-    let design = arc_value c.args.design.now in
+    let design = arc_value c.args.workload.now.design in
     let w = c.in-Submit in
     let fit = subst (SubmitsRule design k.opening.stimulus) c.in-Submit.is c.requires.fits in
     let made = subst (λ m. IfSome m (λ (a : Attempted). a ≡ attempted design w.cycle w.rule w.inputs w.events w.outcome)) c.in-Some.is c.in_ok-made-in-Submit.ensures.attempt in

@@ -15,8 +15,8 @@ use Rattle.journal_check.proofs.replay.replay.Goals as goal
 pub returns-in_err-make_entries-clause-fault : goal.returns-in_err-make_entries-clause-fault
 returns-in_err-make_entries-clause-fault c =
     let batch = c.args.batch.now in
-    let o : Opening = opening_of (arc_value c.args.design.now) (arc_value c.args.stimulus.now) c.args.regs batch in
-    let same : c.in_ok-core.core.opening ≡ o = c.in_ok-core.ensures.opening ∙ ap₂ (λ (d : Parts) (s : InputVectors). opening_of d s c.args.regs batch) c.in_ok-try_clone.ensures c.in_ok-try_clone-3.ensures in
+    let o : Opening = opening_of (arc_value c.args.workload.now.design) (arc_value c.args.workload.now.stimulus) c.args.regs batch in
+    let same : c.in_ok-core.core.opening ≡ o = c.in_ok-core.ensures.opening ∙ ap₂ (λ (d : Parts) (s : InputVectors). opening_of d s c.args.regs batch) c.in_ok-design.ensures.design c.in_ok-design.ensures.stimulus in
     let p = err_from_is_err_and c.from_residual-in_err-make_entries.result c.from_residual-in_err-make_entries.ensures.1 in
     rw (p.1, p.2)
     (fault_onto (IsFirstWrong c.in_ok-core.core.opening batch) (IsFaultOfEntries o batch) c.in_err-make_entries.field-0.0
@@ -26,8 +26,8 @@ returns-in_err-make_entries-clause-fault c =
 pub returns-then-not-has_closed_all-clause-fault : goal.returns-then-not-has_closed_all-clause-fault
 returns-then-not-has_closed_all-clause-fault c =
     let batch = c.args.batch.now in
-    let o : Opening = opening_of (arc_value c.args.design.now) (arc_value c.args.stimulus.now) c.args.regs batch in
-    let same : c.in_ok-core.core.opening ≡ o = c.in_ok-core.ensures.opening ∙ ap₂ (λ (d : Parts) (s : InputVectors). opening_of d s c.args.regs batch) c.in_ok-try_clone.ensures c.in_ok-try_clone-3.ensures in
+    let o : Opening = opening_of (arc_value c.args.workload.now.design) (arc_value c.args.workload.now.stimulus) c.args.regs batch in
+    let same : c.in_ok-core.core.opening ≡ o = c.in_ok-core.ensures.opening ∙ ap₂ (λ (d : Parts) (s : InputVectors). opening_of d s c.args.regs batch) c.in_ok-design.ensures.design c.in_ok-design.ensures.stimulus in
     let leaves = subst (λ (q : Opening). Leaves q batch.entries c.make_entries.new.core) same c.in_ok-make_entries.ensures.leaves in
     let legal = subst (λ (q : Opening). IsLegal q batch.entries) same c.in_ok-make_entries.ensures.legal in
     let open_ = fails c.has_closed_all.result c.has_closed_all.ensures c.if-not-has_closed_all.true in
@@ -37,14 +37,14 @@ returns-then-not-has_closed_all-clause-fault c =
 pub returns-clause-legal : goal.returns-clause-legal
 returns-clause-legal c =
     let batch = c.args.batch.now in
-    let o : Opening = opening_of (arc_value c.args.design.now) (arc_value c.args.stimulus.now) c.args.regs batch in
-    let same : c.in_ok-core.core.opening ≡ o = c.in_ok-core.ensures.opening ∙ ap₂ (λ (d : Parts) (s : InputVectors). opening_of d s c.args.regs batch) c.in_ok-try_clone.ensures c.in_ok-try_clone-3.ensures in
+    let o : Opening = opening_of (arc_value c.args.workload.now.design) (arc_value c.args.workload.now.stimulus) c.args.regs batch in
+    let same : c.in_ok-core.core.opening ≡ o = c.in_ok-core.ensures.opening ∙ ap₂ (λ (d : Parts) (s : InputVectors). opening_of d s c.args.regs batch) c.in_ok-design.ensures.design c.in_ok-design.ensures.stimulus in
     subst (λ (q : Opening). IsLegal q batch.entries) same c.in_ok-make_entries.ensures.legal
 
 pub returns-clause-closes : goal.returns-clause-closes
 returns-clause-closes c =
     let batch = c.args.batch.now in
-    let o : Opening = opening_of (arc_value c.args.design.now) (arc_value c.args.stimulus.now) c.args.regs batch in
-    let same : c.in_ok-core.core.opening ≡ o = c.in_ok-core.ensures.opening ∙ ap₂ (λ (d : Parts) (s : InputVectors). opening_of d s c.args.regs batch) c.in_ok-try_clone.ensures c.in_ok-try_clone-3.ensures in
+    let o : Opening = opening_of (arc_value c.args.workload.now.design) (arc_value c.args.workload.now.stimulus) c.args.regs batch in
+    let same : c.in_ok-core.core.opening ≡ o = c.in_ok-core.ensures.opening ∙ ap₂ (λ (d : Parts) (s : InputVectors). opening_of d s c.args.regs batch) c.in_ok-design.ensures.design c.in_ok-design.ensures.stimulus in
     let leaves = subst (λ (q : Opening). Leaves q batch.entries c.make_entries.new.core) same c.in_ok-make_entries.ensures.leaves in
     closes_from o batch.entries c.make_entries.new.core leaves (c.has_closed_all.ensures.0 c.if-not-has_closed_all.false)
