@@ -51,6 +51,11 @@ impl Tried {
         })
     }
 
+    /// What it takes memory from.
+    pub(crate) fn allocator(&self) -> Global {
+        *self.tops.allocator()
+    }
+
     /// The clash of an access with the earliest rule that fired and has an access in its way.
     pub(crate) fn clash(&self, access: &Access) -> Option<Cause>
         ensures { result ≡ clash access.now (fired_in self.now) }

@@ -39,7 +39,7 @@ pub fn trials(
         inputs,
     };
     let mut tried = Tried::new(alloc, design.regs.len())?;
-    walk(alloc, &env, regs, &mut tried)?;
+    walk(&env, regs, &mut tried)?;
     Ok(tried.into_list())
 }
 
@@ -63,17 +63,12 @@ pub fn slow_trials(
     };
     let mut regs = Sequence::from_slice(alloc, regs.as_slice())?;
     let mut tried = Tried::new(alloc, 0)?;
-    walk(alloc, &env, &mut regs, &mut tried)?;
+    walk(&env, &mut regs, &mut tried)?;
     Ok(tried.into_list())
 }
 
 // Walks through a cycle in which nothing is tried yet.
-fn walk(
-    alloc: Global,
-    env: &Environment<Externs>,
-    regs: &mut Regs,
-    tried: &mut Tried,
-) -> Result<(), NoMemory>
+fn walk(env: &Environment<Externs>, regs: &mut Regs, tried: &mut Tried) -> Result<(), NoMemory>
     requires externs { kept env.now.externs.now ≡ externs_of env.now.design.now }
     requires inputs { HaveWidths (input_widths env.now.design.now) env.now.inputs.now }
     requires registers { HaveWidths (register_widths env.now.design.now) regs.old }
@@ -86,14 +81,13 @@ fn walk(
     let nodes = design.nodes.as_slice();
     let mut at = design.root();
     for (number, node) in nodes.iter().enumerate() {
-        at = pass(alloc, env, number, node, at, regs, tried)?;
+        at = pass(env, number, node, at, regs, tried)?;
     }
     Ok(())
 }
 
 // Tries the rule of the node of this number if the walk is at it, and returns where the walk is then.
 fn pass(
-    alloc: Global,
     env: &Environment<Externs>,
     number: usize,
     node: &Node,
@@ -110,7 +104,7 @@ fn pass(
     ensures fits { OnOk result (HaveWidths (register_widths env.now.design.now) regs.new) }
 {
     if at.is_at(number) {
-        visit(alloc, env, node, regs, tried)
+        visit(env, node, regs, tried)
     } else {
         Ok(at)
     }
@@ -118,7 +112,6 @@ fn pass(
 
 // Tries the rule of a node, and returns where the walk goes on.
 fn visit(
-    alloc: Global,
     env: &Environment<Externs>,
     node: &Node,
     regs: &mut Regs,
@@ -132,6 +125,7 @@ fn visit(
     ensures trials { OnOk result (tried.new ≡ tried.old ++ trial_of (system_of env.now.design.now) env.now.inputs.now node.now.rule (state_of regs.old tried.old) ∷ []) }
     ensures fits { OnOk result (HaveWidths (register_widths env.now.design.now) regs.new) }
 {
+    let alloc = tried.allocator();
     let run = alone(alloc, env.design, env.externs, node.rule, env.inputs, regs)?;
     let judged = judge(tried, &run);
     let mut events = run.events;

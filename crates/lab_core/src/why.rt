@@ -22,7 +22,7 @@ use journal_check::{
     name_of, position_of_rule, push_cause, push_events, push_number, push_token, push_value,
 };
 use kw_bits::{Bits, NoMemory, Text};
-use one_rule::{Externs, Inputs, Regs};
+use one_rule::{Environment, Externs, Inputs, Regs};
 use std::alloc::Global;
 use stim_report::{NameWidth, shape_of};
 use typed_core::Design;
@@ -31,23 +31,22 @@ use typed_core::Design;
 /// registers of the cycle's row; an `Err` leaves any.
 pub fn why_cycle(
     alloc: Global,
-    design: &Design,
-    externs: &Externs,
+    env: &Environment<Externs>,
     only: Option<u32>,
     cycle: u32,
-    inputs: &Inputs,
     regs: &mut Regs,
 ) -> Result<Text, NoMemory>
-    requires externs { kept externs.now ≡ externs_of design.now }
-    requires inputs { HaveWidths (input_widths design.now) inputs.now }
-    requires registers { HaveWidths (register_widths design.now) regs.old }
-    ensures text { IfOk result (λ text. text ≡ cycle_text design.now only cycle inputs.now regs.old) }
-    ensures registers { OnOk result (regs.new ≡ (cycles.cycle (system_of design.now) inputs.now regs.old).regs) }
-    ensures fits { OnOk result (HaveWidths (register_widths design.now) regs.new) }
+    requires externs { kept env.now.externs.now ≡ externs_of env.now.design.now }
+    requires inputs { HaveWidths (input_widths env.now.design.now) env.now.inputs.now }
+    requires registers { HaveWidths (register_widths env.now.design.now) regs.old }
+    ensures text { IfOk result (λ text. text ≡ cycle_text env.now.design.now only cycle env.now.inputs.now regs.old) }
+    ensures registers { OnOk result (regs.new ≡ (cycles.cycle (system_of env.now.design.now) env.now.inputs.now regs.old).regs) }
+    ensures fits { OnOk result (HaveWidths (register_widths env.now.design.now) regs.new) }
 {
+    let design = env.design;
     let mut text = Text::new(alloc);
-    push_cycle(alloc, &mut text, design, cycle, inputs, regs)?;
-    let tried = trials(alloc, design, externs, inputs, regs)?;
+    push_cycle(alloc, &mut text, design, cycle, env.inputs, regs)?;
+    let tried = trials(alloc, design, env.externs, env.inputs, regs)?;
     push_trials(&mut text, design, only, tried.as_slice())?;
     push_untried(alloc, &mut text, design, only, tried.as_slice())?;
     Ok(text)
