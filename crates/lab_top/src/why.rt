@@ -25,7 +25,7 @@ use kw_base::Refusal;
 use kw_bits::{NoMemory, Text};
 use kw_io::Sink;
 use lab_core::{rule_named, why_cycle};
-use one_rule::{Externs, Regs, Stimulus};
+use one_rule::{Environment, Externs, Regs, Stimulus};
 use std::alloc::Global;
 use typed_core::Design;
 
@@ -123,7 +123,12 @@ impl WhyRun {
         design.recall();
         stimulus.recall();
         let inputs = stimulus.inputs(cycle)?;
-        let text = why_cycle(alloc, design, externs, self.only, cycle, &inputs, regs)?;
+        let env = Environment {
+            design,
+            externs,
+            inputs: &inputs,
+        };
+        let text = why_cycle(alloc, &env, self.only, cycle, regs)?;
         write_text(sink, text.as_slice())
     }
 }
