@@ -11,6 +11,8 @@ from sources import TOP, crates, definitions_of, files
 
 # What a kit's derive or an impl adds to a type's name: the trait. The others are found in the sources.
 TRAITS = {"Clone", "Copy", "Debug", "Default", "Drop", "Eq", "Hash", "Ord", "PartialEq", "PartialOrd", "Error", "Display"}
+# What stands between a type and the trait where the impl is at a reference to a `dyn` type, before and behind its traits.
+AT = {"Ref", "Dyn", "Sync"}
 IMPORT = re.compile(r"^(\s*(?:ghost )?(?:pub )?use )(Rattle\.[\w.'+-]+?)(?:\.\{(.*)\})?((?: as [\w']+)?)(;?)(\s*)$")
 
 
@@ -151,7 +153,11 @@ def unresolved(tree):
     def makes(path, name):
         """Whether a name is a type of that file, or what the kit makes of one: with a trait, or with words beside it."""
         name = name.rstrip("'")
-        with_trait = any(has(path, name[:at]) and name[at:] in tree.traits for at in range(1, len(name)))
+
+        def is_trait(rest):
+            return rest in tree.traits or any(rest.startswith(it) and is_trait(rest[len(it) :]) for it in tree.traits | AT)
+
+        with_trait = any(has(path, name[:at]) and is_trait(name[at:]) for at in range(1, len(name)))
         return has(path, name) or with_trait or any(has(path, part) for part in re.split(r"[-_]", name) if len(part) > 1)
 
     def missing(crate, side, rest, names):
